@@ -1,0 +1,25 @@
+-- The three outcomes of a write, from facts as code finds them.
+use Prim.Native.Nat.{ℕ, _≤_, _<_}
+use mathlib.Core.Path.{_≡_, refl}
+use mathlib.Core.List.{List, _++_}
+use borrow.Author.Tests.{lt-ltb, le-ltb, eq-eqb, ne-eqb}
+use lib.ListN.{length, drop}
+use Rattle.output.specs.declared.Written.{Written}
+use Rattle.output.specs.Output.{refusedWrite, acceptedWrite, answerOf, bufferOf}
+
+-- What a call answers, and what its buffer holds then.
+pub record Outcome (earlier : ℕ) (text d : List ℕ) (answer : Written) (buffer : List ℕ) : Type 0 where
+  pub answers : answer ≡ answerOf earlier text d
+  pub leaves : buffer ≡ bufferOf earlier text d
+
+pub earlier-refused : (earlier : ℕ) (text d : List ℕ) → (earlier ≡ 0 → ⊥) → Outcome earlier text d (refusedWrite earlier) d
+unfolding answerOf bufferOf
+earlier-refused earlier text d h = record { answers = rw (ne-eqb _ _ h); leaves = simp (ne-eqb _ _ h) }
+
+pub too-small : (text d : List ℕ) → length d < length text → Outcome 0 text d (refusedWrite 11) d
+unfolding answerOf bufferOf
+too-small text d h = record { answers = rw (lt-ltb _ _ h); leaves = rw (lt-ltb _ _ h) }
+
+pub accepted : (text d : List ℕ) → length text ≤ length d → Outcome 0 text d (acceptedWrite (length text)) (text ++ drop (length text) d)
+unfolding answerOf bufferOf
+accepted text d h = record { answers = rw (le-ltb _ _ h); leaves = rw (le-ltb _ _ h) }

@@ -1,0 +1,28 @@
+-- Beyond the end a list reads as 0.
+use lib.ListN.{List·getD-eq-default}
+use denote.Ref.{now}
+use mathlib.Core.Path.{sym}
+use borrow.Author.Needs.{needs}
+use Rattle.ranges.proofs.number.Statement.{statement}
+use Rattle.ranges.proofs.number.Tie as tie
+use Rattle.ranges.proofs.number.Reads as reads
+use Rattle.ranges.proofs.number.Lts as lts
+
+-- src/lib.rt:68:22
+mul-result : tie.Need-mul-result
+mul-result c = search needs
+
+-- src/lib.rt:68:22
+shared-slice-read-result : tie.Need-shared-slice-read-result
+shared-slice-read-result c = search needs
+
+-- src/lib.rt:65:1
+returns : tie.Need-returns
+returns c = search needs
+
+-- src/lib.rt:65:1
+returns-2 : tie.Need-returns-2
+returns-2 c = let a = c .before .args in sym (List·getD-eq-default (now (a .v)) 0 {n = a .i} (c .if1 .left))
+
+pub number-spec : {M : Type 1} → statement M
+number-spec = tie.close (tie.spec mul-result shared-slice-read-result returns returns-2)

@@ -1,0 +1,133 @@
+// The site file's four sections: the counts that they allow, how long their rows are, and whether
+// each number is in its range.
+mod range;
+
+use range::Range;
+ghost use mathlib.Core.Path.{_≡_};
+ghost use Prim.Native.Nat.{_<_};
+ghost use lib.ListN.{length, getD};
+ghost use Rattle.ranges.specs.Sections.{allowedOf, sizeOf, badNumberOf, rangeOf, mayBeUnused, isGood, firstBad, zeros};
+pub use range::rate_range;
+pub use range::table_range;
+pub use range::within;
+
+// A section of the site file, in the file's order.
+pub enum Section {
+    Timings,
+    Entries,
+    Holidays,
+    Levels,
+}
+
+// Whether a section may have this count.
+pub fn allowed(section: Section, count: u16) -> bool
+    ensures { λ r. ⌜ r ≡ allowedOf section count ⌝ }
+{
+    match section {
+        Section::Timings => count == 15,
+        Section::Entries => count <= 16,
+        Section::Holidays => count <= 16,
+        Section::Levels => count <= 24,
+    }
+}
+
+// How many numbers stand behind a count.
+pub fn size(section: Section, count: u16) -> usize
+    ensures { λ r. ⌜ r ≡ sizeOf section count ⌝ }
+{
+    let n = count as usize;
+    match section {
+        Section::Timings => n,
+        Section::Entries => n * 5,
+        Section::Holidays => n * 4,
+        Section::Levels => n * 5,
+    }
+}
+
+// The refusal of a number that is not allowed.
+pub fn bad_number(section: Section) -> u8
+    ensures { λ r. ⌜ r ≡ badNumberOf section ⌝ }
+{
+    match section {
+        Section::Timings => 3,
+        Section::Entries => 4,
+        Section::Holidays => 5,
+        Section::Levels => 6,
+    }
+}
+
+// The number at i, or 0 beyond the end.
+fn number(v: &[u16], i: usize) -> u16
+    ensures { λ r. ⌜ r ≡ getD (now (v .entry)) i 0 ⌝ }
+{
+    if i < v.len() { v[i] } else { 0 }
+}
+
+fn range_at(section: Section, v: &[u16], i: usize) -> Range
+    requires { ⌜ i < length (now v) ⌝ }
+    ensures { λ r. ⌜ r ≡ rangeOf section (now (v .entry)) i ⌝ }
+{
+    match section {
+        Section::Timings => range::timing_range(number(v, 3), i),
+        Section::Entries => {
+            let row = i - i % 5;
+            range::entry_range(number(v, row + 2), i % 5)
+        }
+        Section::Holidays => {
+            let row = i - i % 4;
+            range::holiday_range(number(v, row), number(v, row + 1), i % 4)
+        }
+        Section::Levels => range::level_range(i % 5),
+    }
+}
+
+fn may_be_unused(section: Section, i: usize) -> bool
+    ensures { λ r. ⌜ r ≡ mayBeUnused section i ⌝ }
+{
+    match section {
+        Section::Timings => false,
+        Section::Entries => false,
+        Section::Holidays => false,
+        Section::Levels => range::within(Range { low: 1, high: 3 }, (i % 5) as u16),
+    }
+}
+
+// Whether number i of a section's numbers is one that the paper allows.
+fn is_good(section: Section, v: &[u16], i: usize) -> bool
+    requires { ⌜ i < length (now v) ⌝ }
+    ensures { λ r. ⌜ r ≡ isGood section (now (v .entry)) i ⌝ }
+{
+    let x = number(v, i);
+    if x == range::UNUSED {
+        return may_be_unused(section, i);
+    }
+    range::within(range_at(section, v, i), x)
+}
+
+// The first of a section's numbers that is not allowed, or how many there are.
+pub fn first_bad(section: Section, v: &[u16]) -> usize
+    ensures { λ r. ⌜ r ≡ firstBad section (now (v .entry)) 0 (length (now (v .entry))) ⌝ }
+{
+    let mut i: usize = 0;
+    while i < v.len() {
+        if !is_good(section, v, i) {
+            return i;
+        }
+        i += 1;
+    }
+    i
+}
+
+// Whether all are 0.
+pub fn all_zero(v: &[u16]) -> bool
+    ensures { λ r. ⌜ r ≡ zeros (now (v .entry)) ⌝ }
+{
+    let mut i: usize = 0;
+    while i < v.len() {
+        if v[i] != 0 {
+            return false;
+        }
+        i += 1;
+    }
+    true
+}

@@ -1,0 +1,6 @@
+pub mod Sizes
+pub mod SpoiltLaws
+pub mod SectionLaws
+pub mod ReadLaws
+pub mod RoundTrip
+pub mod WriteLaws

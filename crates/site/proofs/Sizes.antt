@@ -1,0 +1,23 @@
+-- The lengths of a record's arrays, and that a section with an allowed count has no more numbers than its array.
+use Prim.Native.Nat.{ℕ, _≤_, _*_}
+use mathlib.Core.Path.{_≡_}
+use mathlib.Core.Bool.{true}
+use native.Mathlib.Omega.{arith}
+use lib.ListN.{length}
+use borrow.Author.Tests.{eqb-true, leb-true}
+use Rattle.ranges.specs.declared.Section.{Section}
+use Rattle.ranges.specs.declared.Section.the-variants.{Timings, Entries, Holidays, Levels}
+use Rattle.ranges.specs.Sections.{allowedOf, sizeOf, mostOf}
+use Rattle.site.specs.declared.Site.{Site}
+
+pub fits : (k : Section) (n : ℕ) → allowedOf k n ≡ true → sizeOf k n ≤ mostOf k
+fits Timings n e = omega (arith, eqb-true n 15 e)
+fits Entries n e = omega (arith, leb-true n 16 e)
+fits Holidays n e = omega (arith, leb-true n 16 e)
+fits Levels n e = omega (arith, leb-true n 24 e)
+
+pub record Sized (x : Site) : Type 0 where
+  pub timings : length (x .timings) ≡ 15
+  pub plan : length (x .plan) ≡ 80
+  pub dates : length (x .dates) ≡ 64
+  pub tables : length (x .tables) ≡ 120

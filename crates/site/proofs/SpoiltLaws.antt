@@ -1,0 +1,68 @@
+-- `spoiltOf` and `spoiltSite` from the facts that the code finds, and what it tells of a record that it is not spoilt.
+use Prim.Native.Nat.{ℕ, _≤_, _<_}
+use mathlib.Core.Path.{_≡_, refl, sym, _∙_}
+use mathlib.Core.Bool.{Bool, true, false, not, _||_, true≢false}
+use mathlib.Core.List.{List}
+use borrow.Author.Tests.{lt-ltb, le-ltb, ltb-false, not-false}
+use lib.Dec.{ltb}
+use lib.ListN.{length, take, drop}
+use Rattle.ranges.specs.declared.Section.{Section}
+use Rattle.ranges.specs.declared.Section.the-variants.{Timings, Entries, Holidays, Levels}
+use Rattle.ranges.specs.Sections.{allowedOf, sizeOf, firstBad, zeros}
+use Rattle.site.specs.declared.Site.{Site}
+use Rattle.site.specs.Record.{spoiltOf, spoiltSite}
+
+module _ (k : Section) (n : ℕ) (v : List ℕ) where
+  pub spoilt-count : allowedOf k n ≡ false → true ≡ spoiltOf k n v
+  unfolding spoiltOf
+  spoilt-count f = rw f
+
+  module _ (t : allowedOf k n ≡ true) (w : ℕ) (ew : w ≡ sizeOf k n) (b : ℕ) (eb : b ≡ firstBad k (take w v) 0 (length (take w v))) where
+    pub spoilt-number : b < w → true ≡ spoiltOf k n v
+    unfolding spoiltOf
+    spoilt-number l = rw (t, ← ew, ← eb, lt-ltb _ _ l)
+
+    pub spoilt-rest : w ≤ b → not (zeros (drop w v)) ≡ spoiltOf k n v
+    unfolding spoiltOf
+    spoilt-rest l = rw (t, ← ew, ← eb, le-ltb _ _ l)
+
+neither : (a b : Bool) → (a || b) ≡ false → (a ≡ false) × (b ≡ false)
+neither true b e = absurd (true≢false e)
+neither false b e = (refl, e)
+
+-- What a section that is not spoilt tells.
+pub record Sound (k : Section) (n : ℕ) (v : List ℕ) : Type 0 where
+  pub allowed : allowedOf k n ≡ true
+  pub in-range : sizeOf k n ≤ firstBad k (take (sizeOf k n) v) 0 (length (take (sizeOf k n) v))
+  pub rest : zeros (drop (sizeOf k n) v) ≡ true
+
+pub sound : (k : Section) (n : ℕ) (v : List ℕ) → spoiltOf k n v ≡ false → Sound k n v
+unfolding spoiltOf
+sound k n v z =
+    let p = neither _ _ z in
+    let q = neither _ _ (p .1) in
+    record {
+      allowed = not-false _ (p .0);
+      in-range = ltb-false (firstBad k (take (sizeOf k n) v) 0 (length (take (sizeOf k n) v))) (sizeOf k n) (q .0);
+      rest = not-false _ (q .1);
+    }
+
+-- What a record that is not spoilt tells of its four sections.
+pub record SoundSite (x : Site) : Type 0 where
+  pub timings : Sound Timings 15 (x .timings)
+  pub plan : Sound Entries (x .entries) (x .plan)
+  pub dates : Sound Holidays (x .holidays) (x .dates)
+  pub tables : Sound Levels (x .levels) (x .tables)
+
+pub sound-site : (x : Site) → spoiltSite x ≡ false → SoundSite x
+unfolding spoiltSite
+sound-site x z =
+    let p = neither _ _ z in
+    let q = neither _ _ (p .1) in
+    let r = neither _ _ (q .1) in
+    record {
+      timings = sound Timings 15 (x .timings) (p .0);
+      plan = sound Entries (x .entries) (x .plan) (q .0);
+      dates = sound Holidays (x .holidays) (x .dates) (r .0);
+      tables = sound Levels (x .levels) (x .tables) (r .1);
+    }

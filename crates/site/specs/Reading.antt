@@ -1,0 +1,90 @@
+-- Document 01, 'Refusals': reading a site file, for every sequence of bytes.
+use Prim.Native.Nat.{ℕ, _+_, _*_}
+use mathlib.Core.Bool.{Bool, cond}
+use mathlib.Core.List.{List, _++_}
+use lib.Dec.{ltb, leb, eqb}
+use lib.ListN.{length, getD, take, drop, replicate}
+use Rattle.numbers.specs.Words.{words}
+use Rattle.ranges.specs.declared.Section.{Section}
+use Rattle.ranges.specs.declared.Section.the-variants.{Timings, Entries, Holidays, Levels}
+use Rattle.ranges.specs.Sections.{allowedOf, sizeOf, badNumberOf, firstBad}
+use Rattle.site.specs.declared.Site.{Site}
+use Rattle.site.specs.declared.ReadSite.{ReadSite}
+use Rattle.site.specs.declared.Found.{Found}
+
+abbrev pub refusedAt : ℕ → ℕ → Found
+refusedAt refusal place = record { refusal = refusal; place = place; count = 0; next = 0 }
+
+-- The numbers of the section of kind k whose count is number q of the file's numbers ws.
+abbrev pub numbersOf : Section → List ℕ → ℕ → List ℕ
+numbersOf k ws q = take (sizeOf k (getD ws q 0)) (drop (q + 1) ws)
+
+-- "Count present (1), count allowed (2), section present (1), its numbers left to right (3-6)." "The place is the file's length for 1,
+-- else the offset of the offending number." The file has len bytes; an offset in bytes is twice one in numbers.
+unfoldable pub sectionOf : Section → ℕ → List ℕ → ℕ → Found
+sectionOf k len ws q =
+    let n : ℕ = getD ws q 0 in
+    let w : ℕ = sizeOf k n in
+    let v : List ℕ = numbersOf k ws q in
+    let bad : ℕ = firstBad k v 0 (length v) in
+    cond (ltb q (length ws))
+    (cond (allowedOf k n)
+    (cond (leb (q + 1 + w) (length ws))
+    (cond (ltb bad w)
+    (refusedAt (badNumberOf k) ((q + 1 + bad) * 2))
+    (record { refusal = 0; place = 0; count = n; next = q + 1 + w }))
+    (refusedAt 1 len))
+    (refusedAt 2 (q * 2)))
+    (refusedAt 1 len)
+
+-- "A site record of zeros."
+abbrev pub noSite : Site
+noSite = record {
+  timings = replicate 15 0;
+  entries = 0;
+  plan = replicate 80 0;
+  holidays = 0;
+  dates = replicate 64 0;
+  levels = 0;
+  tables = replicate 120 0;
+}
+
+-- "A refused file gives the number, its place and a site record of zeros."
+abbrev pub refused : ℕ → ℕ → ReadSite
+refused refusal place = record { refusal = refusal; place = place; site = noSite }
+
+-- What follows a section, where that is accepted.
+abbrev pub after : Found → ReadSite → ReadSite
+after a r = cond (eqb (a .refusal) 0) r (refused (a .refusal) (a .place))
+
+-- The numbers of a section over the front of d.
+abbrev pub filledOf : Section → List ℕ → ℕ → List ℕ → List ℕ
+filledOf k ws q d = numbersOf k ws q ++ drop (sizeOf k (getD ws q 0)) d
+
+-- "Reading goes section by section"; "then 7", at the extra byte.
+unfoldable pub readOf : List ℕ → ReadSite
+readOf s =
+    let ws : List ℕ = words s in
+    let t : Found = sectionOf Timings (length s) ws 0 in
+    let e : Found = sectionOf Entries (length s) ws (t .next) in
+    let h : Found = sectionOf Holidays (length s) ws (e .next) in
+    let l : Found = sectionOf Levels (length s) ws (h .next) in
+    after t
+    (after e
+    (after h
+    (after l
+    (cond (eqb (l .next * 2) (length s))
+    (record {
+      refusal = 0;
+      place = 0;
+      site = record {
+        timings = filledOf Timings ws 0 (replicate 15 0);
+        entries = e .count;
+        plan = filledOf Entries ws (t .next) (replicate 80 0);
+        holidays = h .count;
+        dates = filledOf Holidays ws (e .next) (replicate 64 0);
+        levels = l .count;
+        tables = filledOf Levels ws (h .next) (replicate 120 0);
+      };
+    })
+    (refused 7 (l .next * 2))))))

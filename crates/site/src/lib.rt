@@ -1,0 +1,75 @@
+// The site record, and the check for a record that no file could give.
+ghost use mathlib.Core.Path.{_≡_};
+ghost use Prim.Native.Nat.{_≤_};
+ghost use lib.ListN.{length};
+ghost use Rattle.ranges.specs.Sections.{mostOf};
+ghost use Rattle.site.specs.Record.{spoiltOf, spoiltSite};
+use ranges::Section;
+
+// All of a site file. A section's rows stand one behind the other; those beyond its count are 0.
+pub struct Site {
+    // 15 timings
+    pub timings: [u16; 15],
+    // how many plan entries, and their rows of 5: days, start, mode, rate, table
+    pub entries: u16,
+    pub plan: [u16; 80],
+    // how many holidays, and their rows of 4: kind, month, day or week, weekday
+    pub holidays: u16,
+    pub dates: [u16; 64],
+    // how many levels, and their rows of 5: table, flow, occupancy, speed, rate
+    pub levels: u16,
+    pub tables: [u16; 120],
+}
+
+// What reading a file gives: the refusal, or 0; its place; the record, of zeros where refused.
+pub struct ReadSite {
+    pub refusal: u8,
+    pub place: usize,
+    pub site: Site,
+}
+
+// What reading one section finds: its refusal and place, or its count and the number behind it.
+pub struct Found {
+    pub refusal: u8,
+    pub place: usize,
+    pub count: u16,
+    pub next: usize,
+}
+
+// A site record that no file could give.
+pub const SPOILT_SITE: u8 = 14;
+
+// Whether these are no section's count and numbers, with 0 after them.
+fn spoilt_section(section: Section, count: u16, v: &[u16]) -> bool
+    requires { ⌜ mostOf section ≤ length (now v) ⌝ }
+    ensures { λ r. ⌜ r ≡ spoiltOf section count (now (v .entry)) ⌝ }
+{
+    if !ranges::allowed(section, count) {
+        return true;
+    }
+    let k = ranges::size(section, count);
+    if ranges::first_bad(section, &v[..k]) < k {
+        return true;
+    }
+    !ranges::all_zero(&v[k..])
+}
+
+// Whether no file could give this record.
+pub fn spoilt(site: Site) -> bool
+    ensures { λ r. ⌜ r ≡ spoiltSite site ⌝ }
+{
+    let timings = site.timings;
+    if spoilt_section(Section::Timings, 15, &timings) {
+        return true;
+    }
+    let plan = site.plan;
+    if spoilt_section(Section::Entries, site.entries, &plan) {
+        return true;
+    }
+    let dates = site.dates;
+    if spoilt_section(Section::Holidays, site.holidays, &dates) {
+        return true;
+    }
+    let tables = site.tables;
+    spoilt_section(Section::Levels, site.levels, &tables)
+}
