@@ -20,8 +20,3 @@ length-bytes (x ∷ v) = let h = length-bytes v in omega arith
 pub bytes-append : (a b : List ℕ) → bytes (a ++ b) ≡ bytes a ++ bytes b
 bytes-append [] b = refl
 bytes-append (x ∷ a) b = ap (λ (l : List ℕ). (x / 256) ∷ (x % 256) ∷ l) (bytes-append a b)
-
--- two runs, one behind the other, are one
-pub sets-append : (l : List ℕ) (p q : ℕ) (a b : List ℕ) → q ≡ p + length a → sets (sets l p a) q b ≡ sets l p (a ++ b)
-sets-append l p q [] b e = let h : q ≡ p = omega arith in rw h
-sets-append l p q (x ∷ a) b e = sets-append (set l p x) (suc p) q a b (omega arith)

@@ -15,6 +15,13 @@ pub fn word(s: &[u8], i: usize) -> u16
     (s[i * 2] as u16) * 256 + (s[i * 2 + 1] as u16)
 }
 
+// The number at i, or 0 beyond the end.
+pub fn number_at(v: &[u16], i: usize) -> u16
+    ensures { λ r. ⌜ r ≡ getD (now (v .entry)) i 0 ⌝ }
+{
+    if i < v.len() { v[i] } else { 0 }
+}
+
 // Fills dst with the numbers of s from number `at` on. The caller has seen that s has as many.
 pub fn load(s: &[u8], at: usize, dst: &mut [u16])
     requires { ⌜ (at + length (now dst)) * 2 ≤ length (now s) ⌝ }

@@ -5,7 +5,7 @@ mod range;
 use range::Range;
 ghost use mathlib.Core.Path.{_≡_};
 ghost use Prim.Native.Nat.{_<_};
-ghost use lib.ListN.{length, getD};
+ghost use lib.ListN.{length};
 ghost use Rattle.ranges.specs.Sections.{allowedOf, sizeOf, badNumberOf, rangeOf, mayBeUnused, isGood, firstBad, zeros};
 pub use range::rate_range;
 pub use range::table_range;
@@ -56,26 +56,19 @@ pub fn bad_number(section: Section) -> u8
     }
 }
 
-// The number at i, or 0 beyond the end.
-fn number(v: &[u16], i: usize) -> u16
-    ensures { λ r. ⌜ r ≡ getD (now (v .entry)) i 0 ⌝ }
-{
-    if i < v.len() { v[i] } else { 0 }
-}
-
 fn range_at(section: Section, v: &[u16], i: usize) -> Range
     requires { ⌜ i < length (now v) ⌝ }
     ensures { λ r. ⌜ r ≡ rangeOf section (now (v .entry)) i ⌝ }
 {
     match section {
-        Section::Timings => range::timing_range(number(v, 3), i),
+        Section::Timings => range::timing_range(numbers::number_at(v, 3), i),
         Section::Entries => {
             let row = i - i % 5;
-            range::entry_range(number(v, row + 2), i % 5)
+            range::entry_range(numbers::number_at(v, row + 2), i % 5)
         }
         Section::Holidays => {
             let row = i - i % 4;
-            range::holiday_range(number(v, row), number(v, row + 1), i % 4)
+            range::holiday_range(numbers::number_at(v, row), numbers::number_at(v, row + 1), i % 4)
         }
         Section::Levels => range::level_range(i % 5),
     }
@@ -97,7 +90,7 @@ fn is_good(section: Section, v: &[u16], i: usize) -> bool
     requires { ⌜ i < length (now v) ⌝ }
     ensures { λ r. ⌜ r ≡ isGood section (now (v .entry)) i ⌝ }
 {
-    let x = number(v, i);
+    let x = numbers::number_at(v, i);
     if x == range::UNUSED {
         return may_be_unused(section, i);
     }

@@ -8,7 +8,8 @@ use native.Mathlib.Nat.{zero-add}
 use lib.ListN.{length, take, drop, length-append}
 use lib.Seq.{sets, sets-eq, length-take-le}
 use Rattle.numbers.specs.Words.{bytes}
-use Rattle.numbers.proofs.StoreLaws.{length-bytes, bytes-append, sets-append}
+use Rattle.numbers.proofs.StoreLaws.{length-bytes, bytes-append}
+use Rattle.output.proofs.SetsLaws.{sets-append}
 use Rattle.ranges.specs.declared.Section.{Section}
 use Rattle.ranges.specs.declared.Section.the-variants.{Timings, Entries, Holidays, Levels}
 use Rattle.ranges.specs.Sections.{sizeOf, mostOf}

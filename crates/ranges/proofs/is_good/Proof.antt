@@ -8,13 +8,13 @@ use Rattle.ranges.proofs.is_good.Tie as tie
 use Rattle.ranges.proofs.is_good.Reads as reads
 use Rattle.ranges.proofs.is_good.Lts as lts
 use Rattle.ranges.proofs.may_be_unused.Reads as may-be-unused-reads
-use Rattle.ranges.proofs.number.Reads as number-reads
+use Rattle.numbers.proofs.number_at.Reads as number-at-reads
 use Rattle.ranges.proofs.range.within.Reads as within-reads
 use Rattle.ranges.proofs.range_at.Reads as range-at-reads
 
 -- src/lib.rt:100:9
-number-requires : tie.Need-number-requires
-number-requires c κs = search needs
+number-at-requires : tie.Need-number-at-requires
+number-at-requires c κs = search needs
 
 -- src/lib.rt:102:9
 may-be-unused-requires : tie.Need-may-be-unused-requires
@@ -23,7 +23,7 @@ may-be-unused-requires c κs = search needs
 -- src/lib.rt:102:9
 returns : tie.Need-returns
 unfolding isGood
-returns c = rw (← c .before .before .number .ensures, eq-eqb _ _ (c .before .if1 .taken)) (c .may-be-unused .ensures)
+returns c = rw (← c .before .before .number-at .ensures, eq-eqb _ _ (c .before .if1 .taken)) (c .may-be-unused .ensures)
 
 -- src/lib.rt:104:19
 range-at-requires : tie.Need-range-at-requires
@@ -36,13 +36,13 @@ within-requires c κs = search needs
 -- src/lib.rt:96:1
 returns-2 : tie.Need-returns-2
 unfolding isGood
-returns-2 c = rw (← c .before .before .before .number .ensures, ne-eqb _ _ (c .before .before .if1 .left), ← c .before .range-at .ensures) (c .within .ensures)
+returns-2 c = rw (← c .before .before .before .number-at .ensures, ne-eqb _ _ (c .before .before .if1 .left), ← c .before .range-at .ensures) (c .within .ensures)
 
 pub is-good-spec : {M : Type 1} → statement M
 is-good-spec =
     tie.close
     (tie.spec
-    number-requires
+    number-at-requires
     may-be-unused-requires
     returns
     range-at-requires

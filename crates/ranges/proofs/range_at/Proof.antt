@@ -5,7 +5,7 @@ use Rattle.ranges.proofs.range_at.Statement.{statement}
 use Rattle.ranges.proofs.range_at.Tie as tie
 use Rattle.ranges.proofs.range_at.Reads as reads
 use Rattle.ranges.proofs.range_at.Lts as lts
-use Rattle.ranges.proofs.number.Reads as number-reads
+use Rattle.numbers.proofs.number_at.Reads as number-at-reads
 use Rattle.ranges.proofs.range.entry_range.Reads as entry-range-reads
 use Rattle.ranges.proofs.range.holiday_range.Reads as holiday-range-reads
 use Rattle.ranges.proofs.range.level_range.Reads as level-range-reads
@@ -16,8 +16,8 @@ enum-told : tie.Need-enum-told
 enum-told c = search needs
 
 -- src/lib.rt:71:49
-number-requires : tie.Need-number-requires
-number-requires c κs = search needs
+number-at-requires : tie.Need-number-at-requires
+number-at-requires c κs = search needs
 
 -- src/lib.rt:71:29
 timing-range-requires : tie.Need-timing-range-requires
@@ -32,12 +32,12 @@ sub-row : tie.Need-sub-row
 sub-row c = search needs
 
 -- src/lib.rt:74:42
-add-number : tie.Need-add-number
-add-number c = search needs
+add-number-at : tie.Need-add-number-at
+add-number-at c = search needs
 
 -- src/lib.rt:74:32
-number-requires-2 : tie.Need-number-requires-2
-number-requires-2 c κs = search needs
+number-at-requires-2 : tie.Need-number-at-requires-2
+number-at-requires-2 c κs = search needs
 
 -- src/lib.rt:74:13
 entry-range-requires : tie.Need-entry-range-requires
@@ -52,16 +52,16 @@ sub-row-2 : tie.Need-sub-row-2
 sub-row-2 c = search needs
 
 -- src/lib.rt:78:34
-number-requires-3 : tie.Need-number-requires-3
-number-requires-3 c κs = search needs
+number-at-requires-3 : tie.Need-number-at-requires-3
+number-at-requires-3 c κs = search needs
 
 -- src/lib.rt:78:60
-add-number-2 : tie.Need-add-number-2
-add-number-2 c = search needs
+add-number-at-2 : tie.Need-add-number-at-2
+add-number-at-2 c = search needs
 
 -- src/lib.rt:78:50
-number-requires-4 : tie.Need-number-requires-4
-number-requires-4 c κs = search needs
+number-at-requires-4 : tie.Need-number-at-requires-4
+number-at-requires-4 c κs = search needs
 
 -- src/lib.rt:78:13
 holiday-range-requires : tie.Need-holiday-range-requires
@@ -78,17 +78,17 @@ level-range-requires c κs = search needs
 -- src/lib.rt:66:1
 returns : tie.Need-returns
 unfolding rangeOf
-returns c = rw (c .before .before .enum-told .given .1, ← c .before .number .ensures) (c .timing-range .ensures)
+returns c = rw (c .before .before .enum-told .given .1, ← c .before .number-at .ensures) (c .timing-range .ensures)
 
 -- src/lib.rt:66:1
 returns-2 : tie.Need-returns-2
 unfolding rangeOf
-returns-2 c = rw (c .before .before .enum-told2 .given .1, ← c .before .number2 .ensures) (c .entry-range .ensures)
+returns-2 c = rw (c .before .before .enum-told2 .given .1, ← c .before .number-at2 .ensures) (c .entry-range .ensures)
 
 -- src/lib.rt:66:1
 returns-3 : tie.Need-returns-3
 unfolding rangeOf
-returns-3 c = rw (c .before .before .before .enum-told3 .given .1, ← c .before .before .number3 .ensures, ← c .before .number4 .ensures) (c .holiday-range .ensures)
+returns-3 c = rw (c .before .before .before .enum-told3 .given .1, ← c .before .before .number-at3 .ensures, ← c .before .number-at4 .ensures) (c .holiday-range .ensures)
 
 -- src/lib.rt:66:1
 returns-4 : tie.Need-returns-4
@@ -100,18 +100,18 @@ range-at-spec =
     tie.close
     (tie.spec
     enum-told
-    number-requires
+    number-at-requires
     timing-range-requires
     enum-told-2
     sub-row
-    add-number
-    number-requires-2
+    add-number-at
+    number-at-requires-2
     entry-range-requires
     enum-told-3
     sub-row-2
-    number-requires-3
-    add-number-2
-    number-requires-4
+    number-at-requires-3
+    add-number-at-2
+    number-at-requires-4
     holiday-range-requires
     enum-told-4
     level-range-requires

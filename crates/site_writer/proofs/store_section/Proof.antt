@@ -1,7 +1,7 @@
 use Rattle.ranges.specs.Sections.{sizeOf}
 use Rattle.site.specs.Writing.{partOf}
 -- The count's two bytes and the rows' are one run of bytes.
-use Rattle.numbers.proofs.StoreLaws.{sets-append}
+use Rattle.output.proofs.SetsLaws.{sets-append}
 use Rattle.numbers.specs.Words.{bytes}
 use lib.Seq.{sets, length-take-le}
 use lib.ListN.{length, take}

@@ -1,0 +1,75 @@
+-- Document 01, 'Worked runs': what the timetable program prints. "Per day type in bit order, entries by start, equal starts as filed: day,
+-- start as hh:mm, mode, rate, table, place in the file from 1, one blank between."
+use Prim.Native.Nat.{ℕ, zero, suc, _+_, _/_, _%_}
+use mathlib.Core.Bool.{cond}
+use mathlib.Core.List.{List, [], _∷_, _++_}
+use lib.Dec.{eqb}
+use lib.ListN.{getD}
+use Rattle.text.specs.Ascii.{ascii}
+use Rattle.text.specs.Decimal.{decimal, twoDigits}
+use Rattle.plan.specs.declared.Entry.{Entry}
+use Rattle.plan.specs.Entry.{entryOf, onDay}
+use Rattle.site.specs.declared.Site.{Site}
+use Rattle.site.specs.declared.ReadSite.{ReadSite}
+use Rattle.site.specs.Reading.{readOf}
+
+abbrev pub dayNames : List (List ℕ)
+dayNames = ascii "Sun" ∷ ascii "Mon" ∷ ascii "Tue" ∷ ascii "Wed" ∷ ascii "Thu" ∷ ascii "Fri" ∷ ascii "Sat" ∷ ascii "Hol" ∷ []
+
+unfoldable pub dayName : ℕ → List ℕ
+dayName day = getD dayNames day []
+
+abbrev pub modeNames : List (List ℕ)
+modeNames = ascii "dark" ∷ ascii "green" ∷ ascii "fixed" ∷ ascii "resp" ∷ []
+
+unfoldable pub modeName : ℕ → List ℕ
+modeName mode = getD modeNames mode []
+
+-- A minute of the day as hh:mm.
+abbrev pub clockText : ℕ → List ℕ
+clockText minute = twoDigits (minute / 60) ++ (ascii ":" ++ twoDigits (minute % 60))
+
+-- A blank, and a number behind it.
+abbrev pub blankAndDecimal : ℕ → List ℕ
+blankAndDecimal n = ascii " " ++ decimal n
+
+abbrev pub numbersText : Entry → ℕ → List ℕ
+numbersText e filed = blankAndDecimal (e .rate) ++ (blankAndDecimal (e .table) ++ (blankAndDecimal filed ++ ascii "\n"))
+
+-- An entry's line on one day; it is the filed-th of the file.
+unfoldable pub lineOf : ℕ → Entry → ℕ → List ℕ
+lineOf day e filed = dayName day ++ (ascii " " ++ (clockText (e .start) ++ (ascii " " ++ (modeName (e .mode) ++ numbersText e filed))))
+
+-- Its line, if it is an entry of that day and starts at that minute.
+unfoldable pub lineIf : ℕ → ℕ → Entry → ℕ → List ℕ
+lineIf day minute e filed = cond (onDay (e .days) day) (cond (eqb (e .start) minute) (lineOf day e filed) []) []
+
+-- "Equal starts as filed": of the next n entries from entry i on, those that start at that minute.
+abbrev pub startingAt : List ℕ → ℕ → ℕ → ℕ → ℕ → List ℕ
+startingAt rows day minute i zero = []
+startingAt rows day minute i (suc n) = lineIf day minute (entryOf rows i) (i + 1) ++ startingAt rows day minute (i + 1) n
+
+-- "Entries by start": minute after minute, n minutes from this one on.
+abbrev pub minutesFrom : List ℕ → ℕ → ℕ → ℕ → ℕ → List ℕ
+minutesFrom rows count day minute zero = []
+minutesFrom rows count day minute (suc n) = startingAt rows day minute 0 count ++ minutesFrom rows count day (minute + 1) n
+
+-- "Per day type in bit order": n day types from this one on, each with the 1440 minutes of a day.
+abbrev pub daysFrom : List ℕ → ℕ → ℕ → ℕ → List ℕ
+daysFrom rows count day zero = []
+daysFrom rows count day (suc n) = minutesFrom rows count day 0 1440 ++ daysFrom rows count (day + 1) n
+
+unfoldable pub timetableOf : Site → List ℕ
+timetableOf x = ascii "day start mode rate table filed\n" ++ daysFrom (x .plan) (x .entries) 0 8
+
+-- "A refused file prints only `refused N at P`."
+unfoldable pub refusalLine : ℕ → ℕ → List ℕ
+refusalLine refusal place = ascii "refused " ++ (decimal refusal ++ (ascii " at " ++ (decimal place ++ ascii "\n")))
+
+-- What is printed of what reading gave.
+unfoldable pub printedOf : ReadSite → List ℕ
+printedOf r = cond (eqb (r .refusal) 0) (timetableOf (r .site)) (refusalLine (r .refusal) (r .place))
+
+-- What is printed of a site file's bytes.
+abbrev pub textOf : List ℕ → List ℕ
+textOf file = printedOf (readOf file)

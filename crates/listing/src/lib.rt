@@ -1,0 +1,129 @@
+// The text that the timetable program prints of a site file.
+mod line;
+
+ghost use mathlib.Core.Path.{_≡_};
+ghost use Prim.Native.Nat.{_≤_};
+ghost use Rattle.text.specs.Put.{Put};
+ghost use Rattle.output.specs.Output.{answerOf, bufferOf};
+ghost use Rattle.listing.specs.Timetable.{startingAt, minutesFrom, daysFrom, timetableOf, refusalLine, printedOf, textOf};
+ghost use Rattle.listing.specs.NextStart.{NextStart};
+use output::Written;
+use site::ReadSite;
+use site::Site;
+
+const MINUTES_OF_A_DAY: u16 = 1440;
+
+// The earlier of two starts, where the first is at or after a minute of the day.
+fn earlier(start: u16, from: u16, best: u16) -> u16
+    requires { ⌜ from ≤ best ⌝ }
+    ensures { λ r. ⌜ (from ≤ r) × (r ≤ best) × (from ≤ start → r ≤ start) ⌝ }
+{
+    if start < from {
+        return best;
+    }
+    if best < start {
+        return best;
+    }
+    start
+}
+
+// The earliest start at or after a minute of the day.
+fn next_start(rows: &[u16], count: u16, from: u16) -> u16
+    requires { ⌜ from ≤ 1440 ⌝ }
+    ensures { λ r. ⌜ NextStart (now (rows .entry)) count from r ⌝ }
+{
+    let mut best = MINUTES_OF_A_DAY;
+    let mut i: u16 = 0;
+    while i < count {
+        let e = plan::entry_at(rows, i);
+        best = earlier(e.start, from, best);
+        i += 1;
+    }
+    best
+}
+
+// The lines of one day's entries that start at one minute, as filed.
+fn put_starting(out: &mut [u8], at: usize, rows: &[u16], count: u16, day: u16, minute: u16) -> usize
+    ensures { λ r. ⌜ Put (now (out .entry)) at (startingAt (now (rows .entry)) day minute 0 count) r (now (out .exit)) ⌝ }
+{
+    let mut p = at;
+    let mut left = count;
+    while 0 < left {
+        let i = count - left;
+        let e = plan::entry_at(rows, i);
+        p = line::put_line_if(out, p, day, minute, e, i as u64 + 1);
+        left -= 1;
+    }
+    p
+}
+
+// The lines of one day, by start.
+fn put_day(out: &mut [u8], at: usize, rows: &[u16], count: u16, day: u16) -> usize
+    ensures { λ r. ⌜ Put (now (out .entry)) at (minutesFrom (now (rows .entry)) count day 0 1440) r (now (out .exit)) ⌝ }
+{
+    let mut p = at;
+    let mut start = next_start(rows, count, 0);
+    while start < MINUTES_OF_A_DAY {
+        p = put_starting(out, p, rows, count, day, start);
+        start = next_start(rows, count, start + 1);
+    }
+    p
+}
+
+// The lines of all day types, in bit order.
+fn put_days(out: &mut [u8], at: usize, rows: &[u16], count: u16) -> usize
+    ensures { λ r. ⌜ Put (now (out .entry)) at (daysFrom (now (rows .entry)) count 0 8) r (now (out .exit)) ⌝ }
+{
+    let mut p = at;
+    let mut day: u16 = 0;
+    while day < 8 {
+        p = put_day(out, p, rows, count, day);
+        day += 1;
+    }
+    p
+}
+
+fn put_timetable(out: &mut [u8], at: usize, site: Site) -> usize
+    ensures { λ r. ⌜ Put (now (out .entry)) at (timetableOf site) r (now (out .exit)) ⌝ }
+{
+    let p = text::put_bytes(out, at, b"day start mode rate table filed\n");
+    let plan = site.plan;
+    put_days(out, p, &plan, site.entries)
+}
+
+fn put_refusal(out: &mut [u8], at: usize, refusal: u8, place: usize) -> usize
+    ensures { λ r. ⌜ Put (now (out .entry)) at (refusalLine refusal place) r (now (out .exit)) ⌝ }
+{
+    let p = text::put_bytes(out, at, b"refused ");
+    let q = text::put_decimal(out, p, refusal as u64);
+    let r = text::put_bytes(out, q, b" at ");
+    let s = text::put_decimal(out, r, place as u64);
+    text::put_bytes(out, s, b"\n")
+}
+
+// What is printed of what reading gave.
+fn put_printed(out: &mut [u8], at: usize, read: ReadSite) -> usize
+    ensures { λ r. ⌜ Put (now (out .entry)) at (printedOf read) r (now (out .exit)) ⌝ }
+{
+    if read.refusal != 0 {
+        return put_refusal(out, at, read.refusal, read.place);
+    }
+    let site = read.site;
+    put_timetable(out, at, site)
+}
+
+// Writes what is printed of a site file's bytes to the front of out: its timetable, or the line
+// that says why it is refused and where.
+pub fn print(file: &[u8], out: &mut [u8]) -> Written
+    ensures answer { λ r. ⌜ r ≡ answerOf 0 (textOf (now (file .entry))) (now (out .entry)) ⌝ }
+    ensures buffer { λ _. ⌜ now (out .exit) ≡ bufferOf 0 (textOf (now (file .entry))) (now (out .entry)) ⌝ }
+{
+    let read = site_reader::read(file);
+    let mut none = [0u8; 1];
+    let length = put_printed(&mut none, 0, read);
+    if out.len() < length {
+        return output::refused_write(output::SMALL_BUFFER);
+    }
+    let count = put_printed(out, 0, read);
+    output::accepted_write(count)
+}

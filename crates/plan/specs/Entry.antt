@@ -1,0 +1,22 @@
+-- Document 01, 'The site file', plan entries: "days 1-255 (bit 0 Sunday to bit 6 Saturday, bit 7 Holiday); start minute; mode; rate; level
+-- table".
+use Prim.Native.Nat.{ℕ, _+_, _*_, _/_, _%_, _^_}
+use mathlib.Core.Bool.{Bool, false, cond}
+use mathlib.Core.List.{List}
+use lib.Dec.{ltb, eqb}
+use lib.ListN.{getD}
+use Rattle.plan.specs.declared.Entry.{Entry}
+
+-- Entry i of a plan's rows, the first being 0.
+abbrev pub entryOf : List ℕ → ℕ → Entry
+entryOf rows i = record {
+  days = getD rows (i * 5) 0;
+  start = getD rows (i * 5 + 1) 0;
+  mode = getD rows (i * 5 + 2) 0;
+  rate = getD rows (i * 5 + 3) 0;
+  table = getD rows (i * 5 + 4) 0;
+}
+
+-- Whether the day mask has the bit of this day type. There are eight day types.
+unfoldable pub onDay : ℕ → ℕ → Bool
+onDay days day = cond (ltb day 8) (eqb (days / 2 ^ day % 2) 1) false

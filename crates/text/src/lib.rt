@@ -1,0 +1,61 @@
+// Text into a buffer. Each call writes from a place on, as far as the buffer reaches, and gives
+// the place behind its text, so that on an empty buffer it only counts.
+ghost use mathlib.Core.Path.{_≡_};
+ghost use mathlib.Core.List.{_∷_, []};
+ghost use Prim.Native.Nat.{_+_, min};
+ghost use Rattle.text.specs.Decimal.{decimal, twoDigits};
+ghost use Rattle.text.specs.Put.{farthest, Put};
+
+const FARTHEST: usize = 18446744073709551615;
+
+// The place n behind another, or the farthest place where that is beyond it.
+fn behind(at: usize, n: usize) -> usize
+    ensures { λ r. ⌜ r ≡ min (at + n) farthest ⌝ }
+{
+    if FARTHEST - at < n { FARTHEST } else { at + n }
+}
+
+pub fn put_byte(out: &mut [u8], at: usize, byte: u8) -> usize
+    ensures { λ r. ⌜ Put (now (out .entry)) at (byte ∷ []) r (now (out .exit)) ⌝ }
+{
+    if out.len() <= at {
+        return behind(at, 1);
+    }
+    out[at] = byte;
+    at + 1
+}
+
+pub fn put_bytes(out: &mut [u8], at: usize, text: &[u8]) -> usize
+    ensures { λ r. ⌜ Put (now (out .entry)) at (now (text .entry)) r (now (out .exit)) ⌝ }
+{
+    let mut p = at;
+    let mut i: usize = 0;
+    while i < text.len() {
+        if out.len() <= p {
+            return behind(at, text.len());
+        }
+        out[p] = text[i];
+        p += 1;
+        i += 1;
+    }
+    p
+}
+
+// The last two digits of n.
+pub fn put_two_digits(out: &mut [u8], at: usize, n: u16) -> usize
+    ensures { λ r. ⌜ Put (now (out .entry)) at (twoDigits n) r (now (out .exit)) ⌝ }
+{
+    let digits = [48 + (n / 10 % 10) as u8, 48 + (n % 10) as u8];
+    put_bytes(out, at, &digits)
+}
+
+// n in base 10.
+pub fn put_decimal(out: &mut [u8], at: usize, n: u64) -> usize
+    ensures { λ r. ⌜ Put (now (out .entry)) at (decimal n) r (now (out .exit)) ⌝ }
+{
+    if n < 10 {
+        return put_byte(out, at, 48 + n as u8);
+    }
+    let last = put_decimal(out, at, n / 10);
+    put_byte(out, last, 48 + (n % 10) as u8)
+}
