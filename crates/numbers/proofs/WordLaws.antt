@@ -45,3 +45,12 @@ bytes-words (h ∷ l ∷ s) b e =
     let hi : (h * 256 + l) / 256 ≡ h = omega arith in
     let lo : (h * 256 + l) % 256 ≡ l = omega arith in
     rw (hi, lo) (ap (λ (r : List ℕ). h ∷ l ∷ r) (bytes-words s (λ i. b (suc (suc i))) (omega arith)))
+
+-- The numbers of a front of an odd length are a front of the numbers.
+pub words-take : (m : ℕ) (s : List ℕ) → words (take (m * 2 + 1) s) ≡ take m (words s)
+words-take zero [] = refl
+words-take zero (h ∷ []) = refl
+words-take zero (h ∷ l ∷ s) = refl
+words-take (suc m) [] = rw two-one refl
+words-take (suc m) (h ∷ []) = rw two-one refl
+words-take (suc m) (h ∷ l ∷ s) = rw two-one (ap (λ (r : List ℕ). (h * 256 + l) ∷ r) (words-take m s))

@@ -2,7 +2,10 @@
 use Prim.Native.Nat.{ℕ, _≤_, _<_}
 use mathlib.Core.Path.{_≡_, refl}
 use mathlib.Core.List.{List, _++_}
-use borrow.Author.Tests.{lt-ltb, le-ltb, eq-eqb, ne-eqb}
+use mathlib.Core.Bool.{Bool, true, false}
+use native.Mathlib.Omega.{arith}
+use borrow.Author.Tests.{lt-ltb, le-ltb, ltb-false, eq-eqb, ne-eqb}
+use lib.Dec.{ltb, eqb}
 use lib.ListN.{length, drop}
 use Rattle.output.specs.declared.Written.{Written}
 use Rattle.output.specs.Output.{refusedWrite, acceptedWrite, answerOf, bufferOf}
@@ -23,3 +26,13 @@ too-small text d h = record { answers = rw (lt-ltb _ _ h); leaves = rw (lt-ltb _
 pub accepted : (text d : List ℕ) → length text ≤ length d → Outcome 0 text d (acceptedWrite (length text)) (text ++ drop (length text) d)
 unfolding answerOf bufferOf
 accepted text d h = record { answers = rw (le-ltb _ _ h); leaves = rw (le-ltb _ _ h) }
+
+-- No more is written than the buffer holds.
+count-case : (earlier : ℕ) (text d : List ℕ) (a b : Bool) → eqb earlier 0 ≡ a → ltb (length d) (length text) ≡ b → answerOf earlier text d .count ≤ length d
+unfolding answerOf
+count-case earlier text d true true ea eb = rw (ea, eb) (omega arith)
+count-case earlier text d true false ea eb = rw (ea, eb) (ltb-false (length d) (length text) eb)
+count-case earlier text d false b ea eb = rw ea (omega arith)
+
+pub count-fits : (earlier : ℕ) (text d : List ℕ) → answerOf earlier text d .count ≤ length d
+count-fits earlier text d = count-case earlier text d _ _ refl refl

@@ -68,7 +68,11 @@ fn range_at(section: Section, v: &[u16], i: usize) -> Range
         }
         Section::Holidays => {
             let row = i - i % 4;
-            range::holiday_range(numbers::number_at(v, row), numbers::number_at(v, row + 1), i % 4)
+            range::holiday_range(
+                numbers::number_at(v, row),
+                numbers::number_at(v, row + 1),
+                i % 4,
+            )
         }
         Section::Levels => range::level_range(i % 5),
     }

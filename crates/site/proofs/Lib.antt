@@ -4,3 +4,4 @@ pub mod SectionLaws
 pub mod ReadLaws
 pub mod RoundTrip
 pub mod WriteLaws
+pub mod Longest

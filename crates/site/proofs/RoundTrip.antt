@@ -44,7 +44,7 @@ zeros-all (suc w) (suc m) = zeros-all w m
 
 -- A sound section that stands in the file's numbers ws from number q on is accepted there, and gives back its rows.
 module _ (k : Section) (n : ℕ) (v : List ℕ) (ok : Sound k n v) (lv : length v ≡ mostOf k) (ws : List ℕ) (q : ℕ) (rest : List ℕ)
-  (e : drop q ws ≡ partOf k n v ++ rest) where
+    (e : drop q ws ≡ partOf k n v ++ rest) where
   abbrev rows : List ℕ
   rows = take (sizeOf k n) v
 
@@ -128,10 +128,12 @@ module _ (x : Site) (sized : Sized x) (ok : spoiltSite x ≡ false) where
   rows-given : given (filledOf Timings ws 0 (replicate 15 0)) (filledOf Entries ws 16 (replicate 80 0)) (filledOf Holidays ws q₂ (replicate 64 0)) (filledOf Levels ws q₃ (replicate 120 0))
       ≡ record { refusal = 0; place = 0; site = x }
   rows-given =
-      rw (rows-back Timings 15 (x .timings) (s .timings) (sized .timings) ws 0 from-entries at₀,
+      rw (
+        rows-back Timings 15 (x .timings) (s .timings) (sized .timings) ws 0 from-entries at₀,
         rows-back Entries (x .entries) (x .plan) (s .plan) (sized .plan) ws 16 from-holidays at₁,
         rows-back Holidays (x .holidays) (x .dates) (s .dates) (sized .dates) ws q₂ levels at₂,
-        rows-back Levels (x .levels) (x .tables) (s .tables) (sized .tables) ws q₃ [] at₃)
+        rows-back Levels (x .levels) (x .tables) (s .tables) (sized .tables) ws q₃ [] at₃,
+      )
 
   pub reads-back : readOf (bytesOf x) ≡ record { refusal = 0; place = 0; site = x }
   reads-back =
@@ -282,11 +284,15 @@ module _ (f : List ℕ) where
     not-spoilt : spoiltSite back ≡ false
     unfolding spoiltSite
     not-spoilt =
-        rw (count₁, count₂, count₃,
+        rw (
+          count₁,
+          count₂,
+          count₃,
           ap (λ (n : ℕ). spoiltOf Timings n (back .timings)) count₀ ∙ unspoilt Timings (length f) (words f) 0 15 g₀,
           unspoilt Entries (length f) (words f) (t .next) 80 g₁,
           unspoilt Holidays (length f) (words f) (e .next) 64 g₂,
-          unspoilt Levels (length f) (words f) (h .next) 120 g₃)
+          unspoilt Levels (length f) (words f) (h .next) 120 g₃,
+        )
 
     -- The record of an accepted file is not spoilt, and its file is that file, byte for byte.
     pub rewritten : ((i : ℕ) → getD f i 0 < 256) → (spoiltSite (readOf f .site) ≡ false) × (bytesOf (readOf f .site) ≡ f)

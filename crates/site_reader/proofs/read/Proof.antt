@@ -146,10 +146,12 @@ returns-6 c =
     let p₁ = p₂ .before .before .before .before .before in
     let f = now (p₁ .before .before .before .before .before .before .args .src) in
     keeps-rewritten f (λ i. p₁ .before .before .before .before .before .shared-slice-known .given i .fits) _
-    (rw (p₁ .before .before .before .read-section .ensures .1 (p₁ .if1 .left),
+    (rw (
+      p₁ .before .before .before .read-section .ensures .1 (p₁ .if1 .left),
       p₂ .before .before .before .read-section2 .ensures .1 (p₂ .if2 .left),
       p₃ .before .before .before .read-section3 .ensures .1 (p₃ .if3 .left),
-      p₄ .before .before .before .read-section4 .ensures .1 (p₄ .if4 .left))
+      p₄ .before .before .before .read-section4 .ensures .1 (p₄ .if4 .left),
+    )
     (sym (whole f _ (p₁ .before .before .before .read-section .ensures .0) (p₁ .if1 .left) _ (p₂ .before .before .before .read-section2 .ensures .0) (p₂ .if2 .left) _
     (p₃ .before .before .before .read-section3 .ensures .0) (p₃ .if3 .left) _ (p₄ .before .before .before .read-section4 .ensures .0) (p₄ .if4 .left) (c .if5 .left))))
 

@@ -41,7 +41,6 @@ size-is : (c : tie.After-size)
     → c .size .result ≡ sizeOf (c .before .before .before .before .before .before .before .args .section) (getD (words (now (c .before .before .before .before .before .before .before .args .src))) (c .before .before .before .before .before .before .before .args .at) 0)
 size-is c = c .size .ensures ∙ ap (sizeOf (c .before .before .before .before .before .before .before .args .section)) (c .before .before .before .word .ensures)
 
-
 -- What was loaded is the section's numbers,
 loaded : (c : tie.After-load)
     → let s = c .before .before .before in

@@ -90,8 +90,10 @@ returns-3 c =
     let w : c .accepted-write .result ≡ acceptedWrite (length (bytesOf x)) = c .accepted-write .ensures ∙ ap acceptedWrite (p .store-site .ensures .0) in
     rw n (
       w ∙ o .answers,
-      (p .store-site .ensures .1 ∙ o .leaves,
-      λ z. rw (w, p .store-site .ensures .1, take-at (bytesOf x) _ (length (bytesOf x)) refl) (reads-back x (sized s) n)),
+      (
+        p .store-site .ensures .1 ∙ o .leaves,
+        λ z. rw (w, p .store-site .ensures .1, take-at (bytesOf x) _ (length (bytesOf x)) refl) (reads-back x (sized s) n),
+      ),
     )
 
 pub write-spec : {M : Type 1} → statement M

@@ -1,0 +1,2 @@
+pub mod SiteA
+pub mod Starred

@@ -1,0 +1,17 @@
+-- Document 01, 'Worked runs': "Site A: n 2, V 1, exclusion, greens 10 and 20, yellow 20, red 20, warning 100, startup 50, 30, 50, minimum
+-- pre-metering 10, the other timings at their least."
+use Prim.Native.Nat.{ℕ}
+use mathlib.Core.List.{List, [], _∷_}
+use lib.ListN.{replicate}
+use Rattle.site.specs.declared.Site.{Site}
+
+abbrev pub siteA : Site
+siteA = record {
+  timings = 2 ∷ 0 ∷ 1 ∷ 10 ∷ 20 ∷ 20 ∷ 20 ∷ 100 ∷ 50 ∷ 30 ∷ 50 ∷ 10 ∷ 1 ∷ 10 ∷ 1 ∷ [];
+  entries = 0;
+  plan = replicate 80 0;
+  holidays = 0;
+  dates = replicate 64 0;
+  levels = 0;
+  tables = replicate 120 0;
+}

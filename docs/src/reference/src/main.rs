@@ -1,0 +1,64 @@
+//! Document 01 in plain Rust. `reference NAME` writes test inputs and what they should give:
+//!
+//! - `site-bounds stdin`, `site-bounds stdout`: the files of `crates/site_bounds`.
+//! - `timetable FILE`: what the timetable program prints of a file.
+//! - `site-files FOLDER`: the site files that the timetable's test programs read.
+
+mod files;
+mod site;
+mod timetable;
+
+use std::io::{Result, Write};
+
+/// Each case behind its length in two bytes.
+fn framed(cases: &[Vec<u8>]) -> Vec<u8> {
+    cases.iter().flat_map(|c| [&(c.len() as u16).to_be_bytes()[..], c].concat()).collect()
+}
+
+fn site_bounds_answers() -> String {
+    let answer = |file: &Vec<u8>| match site::read(file) {
+        Ok(site) => {
+            assert_eq!(&site::bytes(&site), file);
+            "accepted and rewritten\n".to_string()
+        }
+        Err(r) => format!("refused {} at {}\n", r.number, r.place),
+    };
+    files::bound_files().iter().map(answer).collect()
+}
+
+fn main() -> Result<()> {
+    let words: Vec<String> = std::env::args().skip(1).collect();
+    let words: Vec<&str> = words.iter().map(String::as_str).collect();
+    let mut out = std::io::stdout();
+    match words[..] {
+        ["site-bounds", "stdin"] => out.write_all(&framed(&files::bound_files())),
+        ["site-bounds", "stdout"] => out.write_all(site_bounds_answers().as_bytes()),
+        ["timetable", file] => out.write_all(timetable::print(&std::fs::read(file)?).as_bytes()),
+        ["site-files", folder] => {
+            let mut paper = files::site_a();
+            paper.entries = vec![[2, 330, 2, 600, 0], [2, 330, 2, 720, 0], [130, 1170, 0, 0, 0]];
+            let mut shuffled = files::site_a();
+            shuffled.entries = (0..16).map(|i| [255, [600, 0, 1439][i % 3], 2, 150 + i as u16, 0]).collect();
+            let longest = site::bytes(&files::longest());
+            let mut oversized = longest.clone();
+            oversized.resize(10_000, 7);
+            let mut bad = site::bytes(&files::site_with_rows());
+            bad[9] = 101;
+            let cases = [
+                ("paper.bin", site::bytes(&paper)),
+                ("empty_lists.bin", site::bytes(&files::site_a())),
+                ("rows.bin", site::bytes(&files::site_with_rows())),
+                ("equal_starts.bin", site::bytes(&shuffled)),
+                ("longest.bin", longest),
+                ("oversized.bin", oversized),
+                ("minimum_green.bin", bad),
+                ("zeros.bin", vec![0; 10_000]),
+            ];
+            cases.iter().try_for_each(|(name, file)| std::fs::write(format!("{folder}/{name}"), file))
+        }
+        _ => {
+            eprintln!("reference: no such test: {words:?}");
+            std::process::exit(2)
+        }
+    }
+}
