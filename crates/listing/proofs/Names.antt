@@ -1,7 +1,7 @@
 -- Each day has a name of three letters; past the eighth day and the fourth mode there is none.
 use Prim.Native.Nat.{ℕ, zero, suc, _≤_, _<_}
 use mathlib.Core.Path.{_≡_, refl}
-use mathlib.Core.List.{List, []}
+use mathlib.Core.List.{[]}
 use native.Mathlib.Omega.{arith}
 use lib.ListN.{length, List·getD-eq-default}
 use Rattle.listing.specs.Timetable.{dayNames, dayName, modeNames, modeName}

@@ -4,7 +4,7 @@
 -- Each call that writes says two things with these: which of its earlier checks refuses, as a number or 0, and the bytes that it writes
 -- where none does. What it answers and what its buffer d holds afterwards are then settled for every buffer.
 use Prim.Native.Nat.{ℕ}
-use mathlib.Core.Bool.{Bool, cond}
+use mathlib.Core.Bool.{cond}
 use mathlib.Core.List.{List, _++_}
 use lib.Dec.{ltb, eqb}
 use lib.ListN.{length, drop}

@@ -1,6 +1,6 @@
 -- Writing and reading undo each other. Both directions rest on one law per section, whatever stands before and behind it in the file.
-use Prim.Native.Nat.{ℕ, zero, suc, _+_, _*_, _/_, _%_, _≤_, _<_}
-use mathlib.Core.Path.{_≡_, refl, ap, ap₂, sym, subst, _∙_}
+use Prim.Native.Nat.{ℕ, zero, suc, _+_, _*_, _≤_, _<_}
+use mathlib.Core.Path.{_≡_, refl, ap, ap₂, sym, _∙_}
 use mathlib.Core.Bool.{Bool, true, false, not, false≢true}
 use mathlib.Core.List.{List, [], _∷_, _++_, append-nil}
 use native.Mathlib.Omega.{arith}
@@ -12,10 +12,9 @@ use lib.ListN.{length, getD, take, drop, replicate, length-append, length-drop, 
 use lib.Seq.{drop-cons, drop-drop, getD-drop, take-at, drop-at, length-take-le}
 use Rattle.numbers.specs.Words.{words, bytes}
 use Rattle.numbers.proofs.WordLaws.{words-low, words-bytes, bytes-words}
-use Rattle.numbers.proofs.StoreLaws.{length-bytes}
 use Rattle.ranges.specs.declared.Section.{Section}
 use Rattle.ranges.specs.declared.Section.the-variants.{Timings, Entries, Holidays, Levels}
-use Rattle.ranges.specs.Sections.{allowedOf, sizeOf, mostOf, firstBad, zeros}
+use Rattle.ranges.specs.Sections.{sizeOf, mostOf, firstBad, zeros}
 use Rattle.site.specs.declared.Found.{Found}
 use Rattle.site.specs.declared.Site.{Site}
 use Rattle.site.specs.declared.ReadSite.{ReadSite}

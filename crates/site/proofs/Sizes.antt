@@ -1,5 +1,5 @@
 -- The lengths of a record's arrays, and that a section with an allowed count has no more numbers than its array.
-use Prim.Native.Nat.{ℕ, _≤_, _*_}
+use Prim.Native.Nat.{ℕ, _≤_}
 use mathlib.Core.Path.{_≡_}
 use mathlib.Core.Bool.{true}
 use native.Mathlib.Omega.{arith}

@@ -1,10 +1,9 @@
 -- `spoiltOf` and `spoiltSite` from the facts that the code finds, and what it tells of a record that it is not spoilt.
 use Prim.Native.Nat.{ℕ, _≤_, _<_}
-use mathlib.Core.Path.{_≡_, refl, sym, _∙_}
+use mathlib.Core.Path.{_≡_, refl}
 use mathlib.Core.Bool.{Bool, true, false, not, _||_, true≢false}
 use mathlib.Core.List.{List}
 use borrow.Author.Tests.{lt-ltb, le-ltb, ltb-false, not-false}
-use lib.Dec.{ltb}
 use lib.ListN.{length, take, drop}
 use Rattle.ranges.specs.declared.Section.{Section}
 use Rattle.ranges.specs.declared.Section.the-variants.{Timings, Entries, Holidays, Levels}

@@ -1,11 +1,11 @@
 -- How long a record's file is, and what its four sections leave that are stored one behind the other.
 use Prim.Native.Nat.{ℕ, _+_, _*_, _≤_}
-use mathlib.Core.Path.{_≡_, refl, ap, sym, _∙_}
+use mathlib.Core.Path.{_≡_, ap, sym, _∙_}
 use mathlib.Core.Bool.{false}
 use mathlib.Core.List.{List, _++_}
 use native.Mathlib.Omega.{arith}
 use native.Mathlib.Nat.{zero-add}
-use lib.ListN.{length, take, drop, length-append}
+use lib.ListN.{length, drop, length-append}
 use lib.Seq.{sets, sets-eq, length-take-le}
 use Rattle.numbers.specs.Words.{bytes}
 use Rattle.numbers.proofs.StoreLaws.{length-bytes, bytes-append}

@@ -1,7 +1,6 @@
 -- Document 01, 'Worked runs': "Site A: n 2, V 1, exclusion, greens 10 and 20, yellow 20, red 20, warning 100, startup 50, 30, 50, minimum
 -- pre-metering 10, the other timings at their least."
-use Prim.Native.Nat.{ℕ}
-use mathlib.Core.List.{List, [], _∷_}
+use mathlib.Core.List.{[], _∷_}
 use lib.ListN.{replicate}
 use Rattle.site.specs.declared.Site.{Site}
 

@@ -1,10 +1,7 @@
 -- Document 01, 'Worked runs': the runs marked * in one proof, by computation from the definitions that the calls' contracts cite.
-use Prim.Native.Nat.{ℕ}
 use mathlib.Core.Path.{_≡_, refl}
-use mathlib.Core.Bool.{false}
 use mathlib.Core.List.{[], _∷_, _++_}
 use lib.ListN.{length, take}
-use Rattle.site.specs.Record.{spoiltSite, spoiltOf}
 use Rattle.site.specs.Reading.{refused, sectionOf, readOf}
 use Rattle.site.specs.Writing.{wordsOf, bytesOf}
 use Rattle.ranges.specs.Ranges.{isWithin, timingRange}

@@ -1,19 +1,13 @@
 use Rattle.listing.proofs.Turns.{next-turn}
 -- The loop's invariant: best is at or after `from`, and no later than any such start that was passed.
 use Rattle.listing.specs.NextStart.{NextStart}
-use Rattle.plan.specs.Entry.{entryOf}
 use Rattle.plan.specs.declared.Entry.{Entry}
-use Prim.Native.Nat.{ℕ, _+_, _≤_, _<_, _-_}
-use mathlib.Core.Path.{_≡_, ap, sym, _∙_}
+use Prim.Native.Nat.{_≤_, _-_}
+use mathlib.Core.Path.{_≡_, ap}
 use borrow.Author.Needs.{needs}
 use native.Mathlib.Omega.{arith}
-use denote.Ref.{now}
 use Rattle.listing.proofs.next_start.Statement.{statement}
 use Rattle.listing.proofs.next_start.Tie as tie
-use Rattle.listing.proofs.next_start.Reads as reads
-use Rattle.listing.proofs.next_start.Lts as lts
-use Rattle.listing.proofs.earlier.Reads as earlier-reads
-use Rattle.plan.proofs.entry_at.Reads as entry-at-reads
 
 abbrev Inv-loop : tie.InvT-loop
 Inv-loop rows count from best₀ i₀ best i = (i ≤ count) × NextStart rows i from best
@@ -21,27 +15,21 @@ Inv-loop rows count from best₀ i₀ best i = (i ≤ count) × NextStart rows i
 abbrev μ-loop : tie.MeasureT-loop
 μ-loop rows count from best₀ i₀ best i = count - i
 
--- src/lib.rt:37:5
 loop-holds : tie.Need-loop-holds Inv-loop μ-loop
 loop-holds c = (search needs, record { after = c .before .pre; within = search needs; none-before = λ j l. absurd (omega arith) })
 
--- src/lib.rt:38:13
 entry-at-requires : tie.Need-entry-at-requires Inv-loop μ-loop
 entry-at-requires c κs = search needs
 
--- src/lib.rt:39:9
 earlier-requires : tie.Need-earlier-requires Inv-loop μ-loop
 earlier-requires c κs = c .before .before .loop .inv .1 .after
 
--- src/lib.rt:40:9
 add-i : tie.Need-add-i Inv-loop μ-loop
 add-i c = search needs
 
--- src/lib.rt:37:5
 loop-less : tie.Need-loop-less Inv-loop μ-loop
 loop-less c = search needs
 
--- src/lib.rt:37:5
 loop-again : tie.Need-loop-again Inv-loop μ-loop
 loop-again c =
     let h = c .before .before .before in
@@ -49,7 +37,6 @@ loop-again c =
     let l = c .earlier .ensures in
     (search needs, next-turn _ _ _ _ _ (h .loop .inv .1) (l .0) (l .1) (λ g. omega (arith, e, l .2 (omega (arith, e)))))
 
--- src/lib.rt:31:1
 returns : tie.Need-returns Inv-loop μ-loop
 returns c =
     let h = c .before in

@@ -4,18 +4,14 @@ use Rattle.listing.specs.Timetable.{startingAt, minutesFrom}
 use Rattle.text.proofs.PutLaws.{put-turn, put-within, put-nothing}
 use Rattle.text.specs.Put.{Put, farthest}
 use lib.ListN.{length}
-use Prim.Native.Nat.{ℕ, _+_, _≤_, _<_, _-_}
+use Prim.Native.Nat.{ℕ, _+_, _≤_, _-_}
 use mathlib.Core.List.{List, _++_}
-use mathlib.Core.Path.{_≡_, ap, sym, _∙_}
+use mathlib.Core.Path.{_≡_, ap, _∙_}
 use borrow.Author.Needs.{needs}
 use native.Mathlib.Omega.{arith}
 use denote.Ref.{now}
 use Rattle.listing.proofs.put_day.Statement.{statement}
 use Rattle.listing.proofs.put_day.Tie as tie
-use Rattle.listing.proofs.put_day.Reads as reads
-use Rattle.listing.proofs.put_day.Lts as lts
-use Rattle.listing.proofs.next_start.Reads as next-start-reads
-use Rattle.listing.proofs.put_starting.Reads as put-starting-reads
 
 abbrev Inv-loop : tie.InvT-loop
 Inv-loop out₀ at rows count day p₀ start₀ out p start =
@@ -27,34 +23,27 @@ Inv-loop out₀ at rows count day p₀ start₀ out p start =
 abbrev μ-loop : tie.MeasureT-loop
 μ-loop out₀ at rows count day p₀ start₀ out p start = 1440 - start
 
--- src/lib.rt:65:9
 next-start-requires : tie.Need-next-start-requires Inv-loop μ-loop
 next-start-requires c κs = search needs
 
--- src/lib.rt:66:5
 loop-holds : tie.Need-loop-holds Inv-loop μ-loop
 loop-holds c =
     let n = c .next-start .ensures in
     let a = c .before .before .before .args in
     (n .within, search needs, search needs, λ r d g. rw (skip (now (a .rows)) (a .count) (a .day) 0 _ n) g)
 
--- src/lib.rt:67:9
 put-starting-requires : tie.Need-put-starting-requires Inv-loop μ-loop
 put-starting-requires c κs = search needs
 
--- src/lib.rt:68:41
 add-next-start : tie.Need-add-next-start Inv-loop μ-loop
 add-next-start c = search needs
 
--- src/lib.rt:68:9
 next-start-requires-2 : tie.Need-next-start-requires-2 Inv-loop μ-loop
 next-start-requires-2 c κs = search needs
 
--- src/lib.rt:66:5
 loop-less : tie.Need-loop-less Inv-loop μ-loop
 loop-less c = omega (arith, c .next-start2 .ensures .after)
 
--- src/lib.rt:66:5
 loop-again : tie.Need-loop-again Inv-loop μ-loop
 loop-again c =
     let n = c .next-start2 .ensures in
@@ -69,11 +58,9 @@ loop-again c =
           (h .loop .inv .3),
     )
 
--- src/lib.rt:61:1
 same-length : tie.Need-same-length Inv-loop μ-loop
 same-length c = search needs
 
--- src/lib.rt:61:1
 returns : tie.Need-returns Inv-loop μ-loop
 returns c =
     let h = c .before in

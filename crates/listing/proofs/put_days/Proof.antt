@@ -4,17 +4,13 @@ use Rattle.listing.specs.Timetable.{daysFrom}
 use Rattle.text.proofs.PutLaws.{put-turn, put-within, put-nothing}
 use Rattle.text.specs.Put.{Put, farthest}
 use lib.ListN.{length}
-use Prim.Native.Nat.{ℕ, _+_, _≤_, _<_, _-_}
+use Prim.Native.Nat.{ℕ, _≤_, _-_}
 use mathlib.Core.List.{List}
 use mathlib.Core.Path.{_≡_}
 use borrow.Author.Needs.{needs}
-use native.Mathlib.Omega.{arith}
 use denote.Ref.{now}
 use Rattle.listing.proofs.put_days.Statement.{statement}
 use Rattle.listing.proofs.put_days.Tie as tie
-use Rattle.listing.proofs.put_days.Reads as reads
-use Rattle.listing.proofs.put_days.Lts as lts
-use Rattle.listing.proofs.put_day.Reads as put-day-reads
 
 abbrev Inv-loop : tie.InvT-loop
 Inv-loop out₀ at rows count p₀ day₀ out p day =
@@ -26,23 +22,18 @@ Inv-loop out₀ at rows count p₀ day₀ out p day =
 abbrev μ-loop : tie.MeasureT-loop
 μ-loop out₀ at rows count p₀ day₀ out p day = 8 - day
 
--- src/lib.rt:79:5
 loop-holds : tie.Need-loop-holds Inv-loop μ-loop
 loop-holds c = (search needs, search needs, search needs, λ r d g. g)
 
--- src/lib.rt:80:9
 put-day-requires : tie.Need-put-day-requires Inv-loop μ-loop
 put-day-requires c κs = search needs
 
--- src/lib.rt:81:9
 add-day : tie.Need-add-day Inv-loop μ-loop
 add-day c = search needs
 
--- src/lib.rt:79:5
 loop-less : tie.Need-loop-less Inv-loop μ-loop
 loop-less c = search needs
 
--- src/lib.rt:79:5
 loop-again : tie.Need-loop-again Inv-loop μ-loop
 loop-again c =
     let p = c .before .before in
@@ -54,11 +45,9 @@ loop-again c =
       put-turn (search needs) (p .put-day .ensures) (days-turn (now (a .rows)) (a .count) (h .loop .day) (search needs)) (h .loop .inv .3),
     )
 
--- src/lib.rt:74:1
 same-length : tie.Need-same-length Inv-loop μ-loop
 same-length c = search needs
 
--- src/lib.rt:74:1
 returns : tie.Need-returns Inv-loop μ-loop
 returns c =
     let h = c .before in

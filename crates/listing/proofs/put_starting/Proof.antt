@@ -1,23 +1,17 @@
 -- The loop's invariant: whatever puts the lines that are left puts all of them.
 use Rattle.listing.proofs.Turns.{entries-turn}
-use Rattle.listing.specs.Timetable.{lineIf, startingAt}
-use Rattle.text.proofs.PutLaws.{put-then, put-nothing, put-turn, put-within}
+use Rattle.listing.specs.Timetable.{startingAt}
+use Rattle.text.proofs.PutLaws.{put-nothing, put-turn, put-within}
 use Rattle.text.specs.Put.{Put, farthest}
-use Rattle.plan.specs.Entry.{entryOf}
-use Rattle.plan.specs.declared.Entry.{Entry}
 use lib.ListN.{length}
-use Prim.Native.Nat.{ℕ, _+_, _≤_, _<_, _-_}
+use Prim.Native.Nat.{ℕ, _≤_, _-_}
 use mathlib.Core.List.{List}
-use mathlib.Core.Path.{_≡_, ap, sym, _∙_}
+use mathlib.Core.Path.{_≡_}
 use borrow.Author.Needs.{needs}
 use native.Mathlib.Omega.{arith}
 use denote.Ref.{now}
 use Rattle.listing.proofs.put_starting.Statement.{statement}
 use Rattle.listing.proofs.put_starting.Tie as tie
-use Rattle.listing.proofs.put_starting.Reads as reads
-use Rattle.listing.proofs.put_starting.Lts as lts
-use Rattle.listing.proofs.line.put_line_if.Reads as put-line-if-reads
-use Rattle.plan.proofs.entry_at.Reads as entry-at-reads
 
 abbrev Inv-loop : tie.InvT-loop
 Inv-loop out₀ at rows count day minute p₀ left₀ out p left =
@@ -29,42 +23,33 @@ Inv-loop out₀ at rows count day minute p₀ left₀ out p left =
 abbrev μ-loop : tie.MeasureT-loop
 μ-loop out₀ at rows count day minute p₀ left₀ out p left = left
 
--- src/lib.rt:51:5
 loop-holds : tie.Need-loop-holds Inv-loop μ-loop
 loop-holds c =
     let n = c .before .before .args .count in
     let e : n - n ≡ 0 = omega arith in
     (search needs, search needs, search needs, λ r d g. rw e at g)
 
--- src/lib.rt:52:17
 sub-i : tie.Need-sub-i Inv-loop μ-loop
 sub-i c = search needs
 
--- src/lib.rt:53:13
 entry-at-requires : tie.Need-entry-at-requires Inv-loop μ-loop
 entry-at-requires c κs = search needs
 
--- src/lib.rt:54:55
 cast-put-line-if : tie.Need-cast-put-line-if Inv-loop μ-loop
 cast-put-line-if c = search needs
 
--- src/lib.rt:54:55
 add-put-line-if : tie.Need-add-put-line-if Inv-loop μ-loop
 add-put-line-if c = search needs
 
--- src/lib.rt:54:9
 put-line-if-requires : tie.Need-put-line-if-requires Inv-loop μ-loop
 put-line-if-requires c κs = search needs
 
--- src/lib.rt:55:9
 sub-left : tie.Need-sub-left Inv-loop μ-loop
 sub-left c = search needs
 
--- src/lib.rt:51:5
 loop-less : tie.Need-loop-less Inv-loop μ-loop
 loop-less c = search needs
 
--- src/lib.rt:51:5
 loop-again : tie.Need-loop-again Inv-loop μ-loop
 loop-again c =
     let p = c .before .before in
@@ -77,11 +62,9 @@ loop-again c =
       put-turn (search needs) (rw e at (p .put-line-if .ensures)) (entries-turn (now (a .rows)) (a .day) (a .minute) (a .count) (h .loop .left) (search needs) (search needs)) (h .loop .inv .3),
     )
 
--- src/lib.rt:46:1
 same-length : tie.Need-same-length Inv-loop μ-loop
 same-length c = search needs
 
--- src/lib.rt:46:1
 returns : tie.Need-returns Inv-loop μ-loop
 returns c =
     let h = c .before in

@@ -4,32 +4,22 @@ use Rattle.text.proofs.PutLaws.{put-then}
 use borrow.Author.Needs.{needs}
 use Rattle.listing.proofs.put_timetable.Statement.{statement}
 use Rattle.listing.proofs.put_timetable.Tie as tie
-use Rattle.listing.proofs.put_timetable.Reads as reads
-use Rattle.listing.proofs.put_timetable.Lts as lts
-use Rattle.listing.proofs.put_days.Reads as put-days-reads
-use Rattle.text.proofs.put_bytes.Reads as put-bytes-reads
 
--- src/lib.rt:89:38
 slice-aggregate-put-bytes : tie.Need-slice-aggregate-put-bytes
 slice-aggregate-put-bytes c = search needs
 
--- src/lib.rt:89:9
 put-bytes-requires : tie.Need-put-bytes-requires
 put-bytes-requires c κs = search needs
 
--- src/lib.rt:91:22
 slice-aggregate-put-days : tie.Need-slice-aggregate-put-days
 slice-aggregate-put-days c = search needs
 
--- src/lib.rt:91:5
 put-days-requires : tie.Need-put-days-requires
 put-days-requires c κs = search needs
 
--- src/lib.rt:86:1
 same-length : tie.Need-same-length
 same-length c = search needs
 
--- src/lib.rt:86:1
 returns : tie.Need-returns
 unfolding timetableOf
 returns c = let p = c .before .before .before .before .before .before .before .before in put-then (search needs) (p .put-bytes .ensures) (λ _. c .before .before .put-days .ensures)

@@ -1,21 +1,16 @@
 use lib.ListN.{length-drop}
-use Rattle.numbers.proofs.WordLaws.{words-low, words-high}
+use Rattle.numbers.proofs.WordLaws.{words-high}
 use denote.Ref.{now}
 use native.Mathlib.Numerals.{add-one}
 use lib.Seq.{take-suc, take-suc-set, getD-drop, take-all}
-use lib.ListN.{length-set}
 use borrow.Author.Needs.{needs}
 use native.Mathlib.Omega.{arith}
-use mathlib.Core.Path.{_≡_, sym, ap, _∙_}
-use mathlib.Core.List.{_++_}
+use mathlib.Core.Path.{_≡_, sym, _∙_}
 use Prim.Native.Nat.{_≤_, _<_, _-_}
 use lib.ListN.{length, take, drop}
 use Rattle.numbers.specs.Words.{words}
 use Rattle.numbers.proofs.load.Statement.{statement}
 use Rattle.numbers.proofs.load.Tie as tie
-use Rattle.numbers.proofs.load.Reads as reads
-use Rattle.numbers.proofs.load.Lts as lts
-use Rattle.numbers.proofs.word.Reads as word-reads
 
 abbrev Inv-loop : tie.InvT-loop
 Inv-loop s at dst₀ i₀ dst i = (i ≤ length dst₀) × (length dst ≡ length dst₀) × (take i dst ≡ take i (drop at (words s)))
@@ -23,35 +18,27 @@ Inv-loop s at dst₀ i₀ dst i = (i ≤ length dst₀) × (length dst ≡ lengt
 abbrev μ-loop : tie.MeasureT-loop
 μ-loop s at dst₀ i₀ dst i = length dst₀ - i
 
--- src/lib.rt:49:5
 loop-holds : tie.Need-loop-holds Inv-loop μ-loop
 loop-holds c = search needs
 
--- src/lib.rt:50:26
 add-word : tie.Need-add-word Inv-loop μ-loop
 add-word c = search needs
 
--- src/lib.rt:50:18
 word-requires : tie.Need-word-requires Inv-loop μ-loop
 word-requires c κs = search needs
 
--- src/lib.rt:50:9
 mul-dst : tie.Need-mul-dst Inv-loop μ-loop
 mul-dst c = search needs
 
--- src/lib.rt:50:9
 slice-write-dst : tie.Need-slice-write-dst Inv-loop μ-loop
 slice-write-dst c = search needs
 
--- src/lib.rt:51:9
 add-i : tie.Need-add-i Inv-loop μ-loop
 add-i c = search needs
 
--- src/lib.rt:49:5
 loop-less : tie.Need-loop-less Inv-loop μ-loop
 loop-less c = search needs
 
--- src/lib.rt:49:5
 loop-again : tie.Need-loop-again Inv-loop μ-loop
 loop-again c =
     let h = c .before .before in
@@ -64,11 +51,9 @@ loop-again c =
           (cc),
     )
 
--- src/lib.rt:44:1
 same-length : tie.Need-same-length Inv-loop μ-loop
 same-length c = search needs
 
--- src/lib.rt:44:1
 returns : tie.Need-returns Inv-loop μ-loop
 returns c =
     let h = c .before in

@@ -9,50 +9,37 @@ use Prim.Native.Nat.{_+_, _*_}
 use borrow.Author.Needs.{needs}
 use Rattle.numbers.proofs.word.Statement.{statement}
 use Rattle.numbers.proofs.word.Tie as tie
-use Rattle.numbers.proofs.word.Reads as reads
-use Rattle.numbers.proofs.word.Lts as lts
 
--- src/lib.rt:13:9
 returns : tie.Need-returns
 returns c = let a = c .before .args in sym (List·getD-eq-default (words (now (a .s))) 0 {n = a .i} (omega (arith, length-words (now (a .s)))))
 
--- src/lib.rt:15:8
 mul-result : tie.Need-mul-result
 mul-result c = search needs
 
--- src/lib.rt:15:6
 shared-slice-read-result : tie.Need-shared-slice-read-result
 shared-slice-read-result c = search needs
 
--- src/lib.rt:15:6
 cast-result : tie.Need-cast-result
 cast-result c = omega (arith, c .shared-slice-known .given (c .before .before .args .i * 2))
 
--- src/lib.rt:15:5
 mul-result-2 : tie.Need-mul-result-2
 mul-result-2 c = omega (arith, c .shared-slice-known .given (c .before .before .args .i * 2))
 
--- src/lib.rt:15:34
 mul-result-3 : tie.Need-mul-result-3
 mul-result-3 c = search needs
 
--- src/lib.rt:15:34
 add-result : tie.Need-add-result
 add-result c = search needs
 
--- src/lib.rt:15:32
 shared-slice-read-result-2 : tie.Need-shared-slice-read-result-2
 shared-slice-read-result-2 c = search needs
 
--- src/lib.rt:15:32
 cast-result-2 : tie.Need-cast-result-2
 cast-result-2 c = omega (arith, c .shared-slice-known2 .given (c .before .before .before .args .i * 2 + 1))
 
--- src/lib.rt:15:5
 add-result-2 : tie.Need-add-result-2
 add-result-2 c = let i = c .before .before .before .args .i in omega (arith, c .shared-slice-known2 .given (i * 2 + 1), c .shared-slice-known2 .given (i * 2))
 
--- src/lib.rt:9:1
 returns-2 : tie.Need-returns-2
 returns-2 c = let a = c .before .before .before .args in sym (word-at (now (a .s)) (a .i) (omega arith))
 

@@ -2,51 +2,37 @@
 use borrow.Author.Needs.{needs}
 use Rattle.plan.proofs.entry_at.Statement.{statement}
 use Rattle.plan.proofs.entry_at.Tie as tie
-use Rattle.plan.proofs.entry_at.Reads as reads
-use Rattle.plan.proofs.entry_at.Lts as lts
-use Rattle.numbers.proofs.number_at.Reads as number-at-reads
 
--- src/lib.rt:23:14
 mul-at : tie.Need-mul-at
 mul-at c = search needs
 
--- src/lib.rt:25:15
 number-at-requires : tie.Need-number-at-requires
 number-at-requires c κs = search needs
 
--- src/lib.rt:26:41
 add-number-at : tie.Need-add-number-at
 add-number-at c = search needs
 
--- src/lib.rt:26:16
 number-at-requires-2 : tie.Need-number-at-requires-2
 number-at-requires-2 c κs = search needs
 
--- src/lib.rt:27:40
 add-number-at-2 : tie.Need-add-number-at-2
 add-number-at-2 c = search needs
 
--- src/lib.rt:27:15
 number-at-requires-3 : tie.Need-number-at-requires-3
 number-at-requires-3 c κs = search needs
 
--- src/lib.rt:28:40
 add-number-at-3 : tie.Need-add-number-at-3
 add-number-at-3 c = search needs
 
--- src/lib.rt:28:15
 number-at-requires-4 : tie.Need-number-at-requires-4
 number-at-requires-4 c κs = search needs
 
--- src/lib.rt:29:41
 add-number-at-4 : tie.Need-add-number-at-4
 add-number-at-4 c = search needs
 
--- src/lib.rt:29:16
 number-at-requires-5 : tie.Need-number-at-requires-5
 number-at-requires-5 c κs = search needs
 
--- src/lib.rt:20:1
 returns : tie.Need-returns
 returns c = simp (c .number-at5 .ensures, c .before .number-at4 .ensures, c .before .before .number-at3 .ensures, c .before .before .before .number-at2 .ensures, c .before .before .before .before .number-at .ensures)
 

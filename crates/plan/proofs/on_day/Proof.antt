@@ -6,19 +6,14 @@ use Prim.Native.Nat.{_/_, _^_}
 use borrow.Author.Needs.{needs}
 use Rattle.plan.proofs.on_day.Statement.{statement}
 use Rattle.plan.proofs.on_day.Tie as tie
-use Rattle.plan.proofs.on_day.Reads as reads
-use Rattle.plan.proofs.on_day.Lts as lts
 
--- src/lib.rt:38:9
 returns : tie.Need-returns
 unfolding onDay
 returns c = rw (le-ltb _ _ (c .if1 .taken))
 
--- src/lib.rt:40:6
 shr-result : tie.Need-shr-result
 shr-result c = search needs
 
--- src/lib.rt:34:1
 returns-2 : tie.Need-returns-2
 unfolding onDay
 returns-2 c = let a = c .before .args in rw (lt-ltb _ _ (c .if1 .left), and-mask (a .days / 2 ^ a .day) 1)

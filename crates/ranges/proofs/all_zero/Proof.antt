@@ -1,21 +1,15 @@
 use mathlib.Core.List.{[]}
 use Rattle.ranges.proofs.FirstBad.{zeros-no, zeros-turn}
 use Rattle.ranges.specs.Sections.{zeros}
-use borrow.Author.Tests.{eq-eqb, ne-eqb}
-use native.Mathlib.Numerals.{add-one}
 use lib.ListN.{drop-of-length-le}
-use lib.Seq.{drop-cons, drop-length}
-use lib.ListN.{length, take, drop, length-set}
+use lib.ListN.{length, drop}
 use denote.Ref.{now}
-use Prim.Native.Nat.{ℕ, _≤_, _<_, _+_, _-_, _*_}
-use mathlib.Core.List.{List}
-use mathlib.Core.Path.{_≡_, refl, ap, ap₂, sym, _∙_}
+use Prim.Native.Nat.{_≤_, _-_}
+use mathlib.Core.Path.{_≡_, sym, _∙_}
 use native.Mathlib.Omega.{arith}
 use borrow.Author.Needs.{needs}
 use Rattle.ranges.proofs.all_zero.Statement.{statement}
 use Rattle.ranges.proofs.all_zero.Tie as tie
-use Rattle.ranges.proofs.all_zero.Reads as reads
-use Rattle.ranges.proofs.all_zero.Lts as lts
 
 abbrev Inv-loop : tie.InvT-loop
 Inv-loop v i₀ i = (i ≤ length v) × (zeros (drop i v) ≡ zeros v)
@@ -23,39 +17,31 @@ Inv-loop v i₀ i = (i ≤ length v) × (zeros (drop i v) ≡ zeros v)
 abbrev μ-loop : tie.MeasureT-loop
 μ-loop v i₀ i = length v - i
 
--- src/lib.rt:213:5
 loop-holds : tie.Need-loop-holds Inv-loop μ-loop
 loop-holds c = search needs
 
--- src/lib.rt:214:12
 mul-if1 : tie.Need-mul-if1 Inv-loop μ-loop
 mul-if1 c = search needs
 
--- src/lib.rt:214:12
 shared-slice-read-if1 : tie.Need-shared-slice-read-if1 Inv-loop μ-loop
 shared-slice-read-if1 c = search needs
 
--- src/lib.rt:215:13
 returns : tie.Need-returns Inv-loop μ-loop
 returns c =
     let h = c .before .before .before in
     sym (zeros-no (now (h .before .args .v)) (h .loop .i) (search needs) (c .if1 .taken)) ∙ h .loop .inv .1
 
--- src/lib.rt:217:9
 add-i : tie.Need-add-i Inv-loop μ-loop
 add-i c = search needs
 
--- src/lib.rt:213:5
 loop-less : tie.Need-loop-less Inv-loop μ-loop
 loop-less c = search needs
 
--- src/lib.rt:213:5
 loop-again : tie.Need-loop-again Inv-loop μ-loop
 loop-again c =
     let h = c .before .before .before in
     (search needs, zeros-turn (now (h .before .args .v)) (h .loop .i) (search needs) (c .if1 .left) ∙ h .loop .inv .1)
 
--- src/lib.rt:209:1
 returns-2 : tie.Need-returns-2 Inv-loop μ-loop
 returns-2 c =
     let h = c .before in

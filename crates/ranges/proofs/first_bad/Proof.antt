@@ -10,9 +10,6 @@ use native.Mathlib.Omega.{arith}
 use denote.Ref.{now}
 use Rattle.ranges.proofs.first_bad.Statement.{statement}
 use Rattle.ranges.proofs.first_bad.Tie as tie
-use Rattle.ranges.proofs.first_bad.Reads as reads
-use Rattle.ranges.proofs.first_bad.Lts as lts
-use Rattle.ranges.proofs.is_good.Reads as is-good-reads
 
 abbrev Inv-loop : tie.InvT-loop
 Inv-loop section v i₀ i = (i ≤ length v) × (firstBad section v i (length v - i) ≡ firstBad section v 0 (length v))
@@ -20,37 +17,30 @@ Inv-loop section v i₀ i = (i ≤ length v) × (firstBad section v i (length v 
 abbrev μ-loop : tie.MeasureT-loop
 μ-loop section v i₀ i = length v - i
 
--- src/lib.rt:112:5
 loop-holds : tie.Need-loop-holds Inv-loop μ-loop
 loop-holds c = (search needs, let e : length (c .before .args .v .now) - 0 ≡ length (c .before .args .v .now) = omega arith in rw e)
 
--- src/lib.rt:113:13
 is-good-requires : tie.Need-is-good-requires Inv-loop μ-loop
 is-good-requires c κs = search needs
 
--- src/lib.rt:114:13
 returns : tie.Need-returns Inv-loop μ-loop
 returns c =
     let h = c .before .before .before in
     let a = h .before .before .args in
     sym (bad-here (a .section) (now (a .v)) (h .loop .i) _ (search needs) (sym (c .before .is-good .ensures) ∙ not-true _ (c .if1 .taken))) ∙ h .loop .inv .1
 
--- src/lib.rt:116:9
 add-i : tie.Need-add-i Inv-loop μ-loop
 add-i c = search needs
 
--- src/lib.rt:112:5
 loop-less : tie.Need-loop-less Inv-loop μ-loop
 loop-less c = search needs
 
--- src/lib.rt:112:5
 loop-again : tie.Need-loop-again Inv-loop μ-loop
 loop-again c =
     let h = c .before .before .before in
     let a = h .before .before .args in
     (search needs, sym (bad-step (a .section) (now (a .v)) (h .loop .i) _ (search needs) (sym (c .before .is-good .ensures) ∙ not-false _ (c .if1 .left))) ∙ h .loop .inv .1)
 
--- src/lib.rt:108:1
 returns-2 : tie.Need-returns-2 Inv-loop μ-loop
 returns-2 c =
     let a = c .before .before .before .args in

@@ -3,79 +3,56 @@ use Rattle.output.proofs.OutputLaws.{count-fits}
 use lib.Seq.{length-take-le}
 use lib.ListN.{length}
 use Prim.Native.Nat.{_≤_}
-use mathlib.Core.Path.{_≡_, sym}
+use mathlib.Core.Path.{sym}
 use borrow.Author.Needs.{needs}
 use Rattle.site_bounds.proofs.answer.Statement.{statement}
 use Rattle.site_bounds.proofs.answer.Tie as tie
-use Rattle.site_bounds.proofs.answer.Reads as reads
-use Rattle.site_bounds.proofs.answer.Lts as lts
-use Rattle.check.proofs.same.Reads as same-reads
-use Rattle.io.proofs.buffer.Reads as buffer-reads
-use Rattle.io.proofs.write_all.Reads as write-all-reads
-use Rattle.site_bounds.proofs.print_refusal.Reads as print-refusal-reads
-use Rattle.site_reader.proofs.read.Reads as read-reads
-use Rattle.site_writer.proofs.write.Reads as write-reads
 
 written-fits : (c : tie.After-write) → c .write .result .count ≤ length (c .write .last .1 .0)
 written-fits c = rw (c .write .kept .1 .0, c .write .ensures .0) (count-fits _ _ _)
 
--- src/main.rt:14:9
 read-requires : tie.Need-read-requires
 read-requires c κs = search needs
 
--- src/main.rt:16:9
 print-refusal-requires : tie.Need-print-refusal-requires
 print-refusal-requires c κs = search needs
 
--- src/main.rt:17:9
 returns : tie.Need-returns
 returns c = search needs
 
--- src/main.rt:20:19
 buffer-requires : tie.Need-buffer-requires
 buffer-requires c κs = search needs
 
--- src/main.rt:21:44
 slice-aggregate-write : tie.Need-slice-aggregate-write
 slice-aggregate-write c = search needs
 
--- src/main.rt:21:9
 write-requires : tie.Need-write-requires
 write-requires c κs = search needs
 
--- src/main.rt:23:20
 array-share-prefix-out : tie.Need-array-share-prefix-out
 array-share-prefix-out c = written-fits (c .before)
 
--- src/main.rt:23:20
 slice-aggregate-same : tie.Need-slice-aggregate-same
 slice-aggregate-same c = sym (length-take-le _ _ (written-fits (c .before .before)))
 
--- src/main.rt:23:8
 same-requires : tie.Need-same-requires
 same-requires c κs = search needs
 
--- src/main.rt:24:38
 slice-aggregate-write-all : tie.Need-slice-aggregate-write-all
 slice-aggregate-write-all c = search needs
 
--- src/main.rt:24:9
 write-all-requires : tie.Need-write-all-requires
 write-all-requires c κs = search needs
 
--- src/main.rt:26:38
 slice-aggregate-write-all-2 : tie.Need-slice-aggregate-write-all-2
 slice-aggregate-write-all-2 c = search needs
 
--- src/main.rt:26:9
 write-all-requires-2 : tie.Need-write-all-requires-2
 write-all-requires-2 c κs = search needs
 
--- src/main.rt:13:1
 returns-2 : tie.Need-returns-2
 returns-2 c = search needs
 
--- src/main.rt:13:1
 returns-3 : tie.Need-returns-3
 returns-3 c = search needs
 

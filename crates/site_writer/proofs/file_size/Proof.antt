@@ -1,45 +1,32 @@
 -- The file's length by its four sections.
-use Rattle.site.proofs.Sizes.{Sized}
 use Rattle.site.proofs.WriteLaws.{length-file}
 use lib.ListN.{length}
-use mathlib.Core.Path.{_≡_}
 use native.Mathlib.Omega.{arith}
 use borrow.Author.Needs.{needs}
 use Rattle.site_writer.proofs.file_size.Statement.{statement}
 use Rattle.site_writer.proofs.file_size.Tie as tie
-use Rattle.site_writer.proofs.file_size.Reads as reads
-use Rattle.site_writer.proofs.file_size.Lts as lts
-use Rattle.ranges.proofs.size.Reads as size-reads
 
--- src/lib.rt:35:9
 size-requires : tie.Need-size-requires
 size-requires c κs = search needs
 
--- src/lib.rt:36:9
 size-requires-2 : tie.Need-size-requires-2
 size-requires-2 c κs = search needs
 
--- src/lib.rt:37:9
 size-requires-3 : tie.Need-size-requires-3
 size-requires-3 c κs = search needs
 
--- src/lib.rt:38:11
 add-result : tie.Need-add-result
 add-result c = search needs
 
--- src/lib.rt:38:11
 add-result-2 : tie.Need-add-result-2
 add-result-2 c = search needs
 
--- src/lib.rt:38:10
 mul-result : tie.Need-mul-result
 mul-result c = search needs
 
--- src/lib.rt:38:5
 add-result-3 : tie.Need-add-result-3
 add-result-3 c = search needs
 
--- src/lib.rt:31:1
 returns : tie.Need-returns
 returns c =
     let s = c .before .before .before in

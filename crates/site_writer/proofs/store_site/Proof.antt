@@ -1,21 +1,17 @@
 -- The four sections, each stored where the one before it ended; p₁ to p₄ are the places after each.
-use Rattle.site.proofs.WriteLaws.{timings-bytes, entries-bytes, holidays-bytes, levels-bytes, length-file, four-stores}
+use Rattle.site.proofs.WriteLaws.{entries-bytes, holidays-bytes, levels-bytes, length-file, four-stores}
 use Rattle.site.proofs.SpoiltLaws.{SoundSite, sound-site}
 use Rattle.site.proofs.Sizes.{fits, Sized}
-use Rattle.ranges.specs.declared.Section.the-variants.{Timings, Entries, Holidays, Levels}
+use Rattle.ranges.specs.declared.Section.the-variants.{Entries, Holidays, Levels}
 use lib.Seq.{sets}
-use lib.ListN.{length}
-use Prim.Native.Nat.{ℕ, _+_, _*_, _≤_}
+use Prim.Native.Nat.{ℕ}
 use mathlib.Core.List.{List}
-use mathlib.Core.Path.{_≡_, ap, ap₂, sym, _∙_}
+use mathlib.Core.Path.{ap, _∙_}
 use native.Mathlib.Omega.{arith}
 use denote.Ref.{now}
 use borrow.Author.Needs.{needs}
 use Rattle.site_writer.proofs.store_site.Statement.{statement}
 use Rattle.site_writer.proofs.store_site.Tie as tie
-use Rattle.site_writer.proofs.store_site.Reads as reads
-use Rattle.site_writer.proofs.store_site.Lts as lts
-use Rattle.site_writer.proofs.store_section.Reads as store-section-reads
 
 sized : (s : tie.Start) → Sized (s .args .site)
 sized s = record { timings = search needs; plan = search needs; dates = search needs; tables = search needs }
@@ -23,21 +19,17 @@ sized s = record { timings = search needs; plan = search needs; dates = search n
 sound : (s : tie.Start) → SoundSite (s .args .site)
 sound s = sound-site (s .args .site) (s .pre .0)
 
--- src/lib.rt:50:63
 slice-aggregate-store-section : tie.Need-slice-aggregate-store-section
 slice-aggregate-store-section c = search needs
 
--- src/lib.rt:50:9
 store-section-requires : tie.Need-store-section-requires
 store-section-requires c κs =
     let s = c .before .before .before .before .before .before .before in
     (omega (arith, sized s .timings), omega (arith, s .pre .1, length-file (s .args .site) (sized s) (s .pre .0)))
 
--- src/lib.rt:51:80
 slice-aggregate-store-section-2 : tie.Need-slice-aggregate-store-section-2
 slice-aggregate-store-section-2 c = search needs
 
--- src/lib.rt:51:9
 store-section-requires-2 : tie.Need-store-section-requires-2
 store-section-requires-2 c κs =
     let p₁ = c .before .before .before .before in
@@ -46,11 +38,9 @@ store-section-requires-2 c κs =
       omega (arith, s .pre .1, length-file (s .args .site) (sized s) (s .pre .0), p₁ .store-section .ensures .0, p₁ .store-section .kept .0),
     )
 
--- src/lib.rt:52:81
 slice-aggregate-store-section-3 : tie.Need-slice-aggregate-store-section-3
 slice-aggregate-store-section-3 c = search needs
 
--- src/lib.rt:52:9
 store-section-requires-3 : tie.Need-store-section-requires-3
 store-section-requires-3 c κs =
     let p₂ = c .before .before .before .before in
@@ -60,11 +50,9 @@ store-section-requires-3 c κs =
       omega (arith, s .pre .1, length-file (s .args .site) (sized s) (s .pre .0), p₁ .store-section .ensures .0, p₁ .store-section .kept .0, p₂ .store-section2 .ensures .0, p₂ .store-section2 .kept .0),
     )
 
--- src/lib.rt:53:62
 slice-aggregate-store-section-4 : tie.Need-slice-aggregate-store-section-4
 slice-aggregate-store-section-4 c = search needs
 
--- src/lib.rt:53:5
 store-section-requires-4 : tie.Need-store-section-requires-4
 store-section-requires-4 c κs =
     let p₃ = c .before .before .before .before in
@@ -75,11 +63,9 @@ store-section-requires-4 c κs =
       omega (arith, s .pre .1, length-file (s .args .site) (sized s) (s .pre .0), p₁ .store-section .ensures .0, p₁ .store-section .kept .0, p₂ .store-section2 .ensures .0, p₂ .store-section2 .kept .0, p₃ .store-section3 .ensures .0, p₃ .store-section3 .kept .0),
     )
 
--- src/lib.rt:42:1
 same-length : tie.Need-same-length
 same-length c = search needs
 
--- src/lib.rt:42:1
 returns : tie.Need-returns
 returns c =
     let p₄ = c .before .before in

@@ -2,7 +2,6 @@
 use Rattle.site.proofs.RoundTrip.{reads-back}
 use Rattle.site.proofs.Sizes.{Sized}
 use Rattle.site.specs.Writing.{bytesOf}
-use Rattle.site.specs.Reading.{readOf}
 use Rattle.site.specs.Record.{spoiltSite}
 use Rattle.output.proofs.OutputLaws.{earlier-refused, too-small, accepted}
 use Rattle.output.specs.Output.{acceptedWrite}
@@ -10,7 +9,6 @@ use Rattle.output.specs.declared.Written.{Written}
 use lib.Seq.{take-at}
 use lib.ListN.{length}
 use Prim.Native.Nat.{ℕ, _≤_}
-use mathlib.Core.List.{List}
 use mathlib.Core.Bool.{false}
 use mathlib.Core.Path.{_≡_, refl, ap, sym, _∙_}
 use native.Mathlib.Omega.{arith}
@@ -18,13 +16,6 @@ use denote.Ref.{now}
 use borrow.Author.Needs.{needs}
 use Rattle.site_writer.proofs.write.Statement.{statement}
 use Rattle.site_writer.proofs.write.Tie as tie
-use Rattle.site_writer.proofs.write.Reads as reads
-use Rattle.site_writer.proofs.write.Lts as lts
-use Rattle.output.proofs.accepted_write.Reads as accepted-write-reads
-use Rattle.output.proofs.refused_write.Reads as refused-write-reads
-use Rattle.site.proofs.spoilt.Reads as spoilt-reads
-use Rattle.site_writer.proofs.file_size.Reads as file-size-reads
-use Rattle.site_writer.proofs.store_site.Reads as store-site-reads
 
 sized : (s : tie.Start) → Sized (s .args .site)
 sized s = record { timings = search needs; plan = search needs; dates = search needs; tables = search needs }
@@ -35,15 +26,12 @@ not-spoilt c = sym (c .before .spoilt .ensures) ∙ c .if1 .left
 refusal-of : (r : Written) {n : ℕ} → r ≡ record { refusal = n; count = 0 } → r .refusal ≡ n
 refusal-of r e = ap (λ (w : Written). w .refusal) e
 
--- src/lib.rt:62:8
 spoilt-requires : tie.Need-spoilt-requires
 spoilt-requires c κs = search needs
 
--- src/lib.rt:63:9
 refused-write-requires : tie.Need-refused-write-requires
 refused-write-requires c κs = search needs
 
--- src/lib.rt:63:9
 returns : tie.Need-returns
 returns c =
     let a = c .before .before .before .before .args in
@@ -51,34 +39,27 @@ returns c =
     rw (sym (c .before .before .spoilt .ensures) ∙ c .before .if1 .taken)
     (c .refused-write .ensures ∙ o .answers, (o .leaves, λ z. absurd (omega (arith, refusal-of _ (c .refused-write .ensures)))))
 
--- src/lib.rt:65:20
 file-size-requires : tie.Need-file-size-requires
 file-size-requires c κs = not-spoilt c
 
--- src/lib.rt:66:9
 refused-write-requires-2 : tie.Need-refused-write-requires-2
 refused-write-requires-2 c κs = search needs
 
--- src/lib.rt:66:9
 returns-2 : tie.Need-returns-2
 returns-2 c =
     let a = c .before .before .before .before .before .before .args in
     let o = too-small (bytesOf (a .site)) (now (a .out)) (omega (arith, c .before .before .file-size .ensures)) in
     rw (not-spoilt (c .before .before .before)) (c .refused-write2 .ensures ∙ o .answers, (o .leaves, λ z. absurd (omega (arith, refusal-of _ (c .refused-write2 .ensures)))))
 
--- src/lib.rt:68:9
 store-site-requires : tie.Need-store-site-requires
 store-site-requires c κs = (not-spoilt (c .before .before .before), omega (arith, c .before .before .file-size .ensures))
 
--- src/lib.rt:69:5
 accepted-write-requires : tie.Need-accepted-write-requires
 accepted-write-requires c κs = search needs
 
--- src/lib.rt:57:1
 same-length : tie.Need-same-length
 same-length c = search needs
 
--- src/lib.rt:57:1
 returns-3 : tie.Need-returns-3
 returns-3 c =
     let p = c .before .before .before in

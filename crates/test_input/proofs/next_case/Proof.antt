@@ -1,62 +1,46 @@
 -- What was read lies within the buffer.
 use Rattle.io.proofs.Counting.{counts}
 use lib.Seq.{length-take-le}
-use lib.ListN.{length, length-append}
+use lib.ListN.{length-append}
 use mathlib.Core.Path.{sym}
 use native.Mathlib.Omega.{arith}
 use borrow.Author.Needs.{needs}
 use Rattle.test_input.proofs.next_case.Statement.{statement}
 use Rattle.test_input.proofs.next_case.Tie as tie
-use Rattle.test_input.proofs.next_case.Reads as reads
-use Rattle.test_input.proofs.next_case.Lts as lts
-use Rattle.io.proofs.read_full.Reads as read-full-reads
-use Rattle.numbers.proofs.word.Reads as word-reads
 
--- src/lib.rt:23:43
 slice-aggregate-read-full : tie.Need-slice-aggregate-read-full
 slice-aggregate-read-full c = search needs
 
--- src/lib.rt:23:9
 read-full-requires : tie.Need-read-full-requires
 read-full-requires c κs = search needs
 
--- src/lib.rt:24:32
 slice-aggregate-word : tie.Need-slice-aggregate-word
 slice-aggregate-word c = search needs
 
--- src/lib.rt:24:18
 word-requires : tie.Need-word-requires
 word-requires c κs = search needs
 
--- src/lib.rt:24:18
 cast-length : tie.Need-cast-length
 cast-length c = search needs
 
--- src/lib.rt:26:9
 returns : tie.Need-returns
 returns c = search needs
 
--- src/lib.rt:32:9
 returns-2 : tie.Need-returns-2
 returns-2 c = search needs
 
--- src/lib.rt:37:45
 slice-relend-prefix-read-full : tie.Need-slice-relend-prefix-read-full
 slice-relend-prefix-read-full c = search needs
 
--- src/lib.rt:37:45
 slice-aggregate-read-full-2 : tie.Need-slice-aggregate-read-full-2
 slice-aggregate-read-full-2 c = sym (length-take-le _ _ (search needs))
 
--- src/lib.rt:37:9
 read-full-requires-2 : tie.Need-read-full-requires-2
 read-full-requires-2 c κs = search needs
 
--- src/lib.rt:19:1
 same-length : tie.Need-same-length
 same-length c = search needs
 
--- src/lib.rt:19:1
 returns-3 : tie.Need-returns-3
 returns-3 c = let r = c .before .before .read-full2 in counts _ _ (simp length-append (omega (arith, r .ensures .0)))
 

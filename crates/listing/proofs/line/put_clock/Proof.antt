@@ -3,28 +3,19 @@ use Rattle.text.proofs.PutLaws.{put-then}
 use borrow.Author.Needs.{needs}
 use Rattle.listing.proofs.line.put_clock.Statement.{statement}
 use Rattle.listing.proofs.line.put_clock.Tie as tie
-use Rattle.listing.proofs.line.put_clock.Reads as reads
-use Rattle.listing.proofs.line.put_clock.Lts as lts
-use Rattle.text.proofs.put_byte.Reads as put-byte-reads
-use Rattle.text.proofs.put_two_digits.Reads as put-two-digits-reads
 
--- src/line.rt:45:9
 put-two-digits-requires : tie.Need-put-two-digits-requires
 put-two-digits-requires c κs = search needs
 
--- src/line.rt:46:9
 put-byte-requires : tie.Need-put-byte-requires
 put-byte-requires c κs = search needs
 
--- src/line.rt:47:5
 put-two-digits-requires-2 : tie.Need-put-two-digits-requires-2
 put-two-digits-requires-2 c κs = search needs
 
--- src/line.rt:42:1
 same-length : tie.Need-same-length
 same-length c = search needs
 
--- src/line.rt:42:1
 returns : tie.Need-returns
 returns c =
     let q = c .before .before .before .before .before .before in

@@ -2,40 +2,30 @@
 use Rattle.listing.proofs.Names.{three-letters, no-name}
 use Rattle.listing.specs.Timetable.{dayName}
 use Rattle.text.proofs.PutLaws.{put-nothing}
-use mathlib.Core.Path.{_≡_, sym, ap, _∙_}
+use mathlib.Core.Path.{sym}
 use borrow.Author.Needs.{needs}
 use Rattle.listing.proofs.line.put_day_name.Statement.{statement}
 use Rattle.listing.proofs.line.put_day_name.Tie as tie
-use Rattle.listing.proofs.line.put_day_name.Reads as reads
-use Rattle.listing.proofs.line.put_day_name.Lts as lts
-use Rattle.text.proofs.put_bytes.Reads as put-bytes-reads
 
--- src/line.rt:23:9
 returns : tie.Need-returns
 returns c = rw (no-name (c .before .before .args .day) (c .if1 .taken)) (put-nothing _ _ (search needs))
 
--- src/line.rt:25:16
 mul-name : tie.Need-mul-name
 mul-name c = search needs
 
--- src/line.rt:25:16
 array-copy-out-name : tie.Need-array-copy-out-name
 array-copy-out-name c = search needs
 
--- src/line.rt:26:30
 slice-aggregate-put-bytes : tie.Need-slice-aggregate-put-bytes
 unfolding dayName
 slice-aggregate-put-bytes c = sym (three-letters (c .before .before .before .before .before .args .day) (c .before .before .before .if1 .left))
 
--- src/line.rt:26:5
 put-bytes-requires : tie.Need-put-bytes-requires
 put-bytes-requires c κs = search needs
 
--- src/line.rt:18:1
 same-length : tie.Need-same-length
 same-length c = search needs
 
--- src/line.rt:18:1
 returns-2 : tie.Need-returns-2
 unfolding dayName
 returns-2 c = c .before .before .put-bytes .ensures

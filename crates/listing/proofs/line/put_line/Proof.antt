@@ -4,43 +4,28 @@ use Rattle.text.proofs.PutLaws.{put-then}
 use borrow.Author.Needs.{needs}
 use Rattle.listing.proofs.line.put_line.Statement.{statement}
 use Rattle.listing.proofs.line.put_line.Tie as tie
-use Rattle.listing.proofs.line.put_line.Reads as reads
-use Rattle.listing.proofs.line.put_line.Lts as lts
-use Rattle.listing.proofs.line.put_clock.Reads as put-clock-reads
-use Rattle.listing.proofs.line.put_day_name.Reads as put-day-name-reads
-use Rattle.listing.proofs.line.put_mode_name.Reads as put-mode-name-reads
-use Rattle.listing.proofs.line.put_numbers.Reads as put-numbers-reads
-use Rattle.text.proofs.put_byte.Reads as put-byte-reads
 
--- src/line.rt:71:9
 put-day-name-requires : tie.Need-put-day-name-requires
 put-day-name-requires c κs = search needs
 
--- src/line.rt:72:9
 put-byte-requires : tie.Need-put-byte-requires
 put-byte-requires c κs = search needs
 
--- src/line.rt:73:9
 put-clock-requires : tie.Need-put-clock-requires
 put-clock-requires c κs = search needs
 
--- src/line.rt:74:9
 put-byte-requires-2 : tie.Need-put-byte-requires-2
 put-byte-requires-2 c κs = search needs
 
--- src/line.rt:75:9
 put-mode-name-requires : tie.Need-put-mode-name-requires
 put-mode-name-requires c κs = search needs
 
--- src/line.rt:76:5
 put-numbers-requires : tie.Need-put-numbers-requires
 put-numbers-requires c κs = search needs
 
--- src/line.rt:68:1
 same-length : tie.Need-same-length
 same-length c = search needs
 
--- src/line.rt:68:1
 returns : tie.Need-returns
 unfolding lineOf
 returns c =

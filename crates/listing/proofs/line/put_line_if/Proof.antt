@@ -2,38 +2,28 @@
 use Rattle.listing.specs.Timetable.{lineIf}
 use Rattle.text.proofs.PutLaws.{put-nothing}
 use borrow.Author.Tests.{eq-eqb, ne-eqb, not-true, not-false}
-use mathlib.Core.Path.{_≡_, sym, _∙_}
+use mathlib.Core.Path.{sym, _∙_}
 use borrow.Author.Needs.{needs}
 use Rattle.listing.proofs.line.put_line_if.Statement.{statement}
 use Rattle.listing.proofs.line.put_line_if.Tie as tie
-use Rattle.listing.proofs.line.put_line_if.Reads as reads
-use Rattle.listing.proofs.line.put_line_if.Lts as lts
-use Rattle.listing.proofs.line.put_line.Reads as put-line-reads
-use Rattle.plan.proofs.on_day.Reads as on-day-reads
 
--- src/line.rt:76:9
 on-day-requires : tie.Need-on-day-requires
 on-day-requires c κs = search needs
 
--- src/line.rt:77:9
 returns : tie.Need-returns
 unfolding lineIf
 returns c = rw (sym (c .before .on-day .ensures) ∙ not-true _ (c .if1 .taken)) (put-nothing _ _ (search needs))
 
--- src/line.rt:80:9
 returns-2 : tie.Need-returns-2
 unfolding lineIf
 returns-2 c = let p = c .before .before in rw (sym (p .before .on-day .ensures) ∙ not-false _ (p .if1 .left), ne-eqb _ _ (c .if2 .taken)) (put-nothing _ _ (search needs))
 
--- src/line.rt:82:5
 put-line-requires : tie.Need-put-line-requires
 put-line-requires c κs = search needs
 
--- src/line.rt:73:1
 same-length : tie.Need-same-length
 same-length c = search needs
 
--- src/line.rt:73:1
 returns-3 : tie.Need-returns-3
 unfolding lineIf
 returns-3 c =

@@ -2,86 +2,63 @@ use Rattle.listing.proofs.Names.{no-mode}
 -- Each arm is the definition's name; past the fourth mode there is none.
 use Rattle.listing.specs.Timetable.{modeName}
 use Rattle.text.proofs.PutLaws.{put-nothing}
-use lib.ListN.{List·getD-eq-default}
-use mathlib.Core.List.{List, []}
-use mathlib.Core.Path.{_≡_}
 use native.Mathlib.Omega.{arith}
 use borrow.Author.Needs.{needs}
 use Rattle.listing.proofs.line.put_mode_name.Statement.{statement}
 use Rattle.listing.proofs.line.put_mode_name.Tie as tie
-use Rattle.listing.proofs.line.put_mode_name.Reads as reads
-use Rattle.listing.proofs.line.put_mode_name.Lts as lts
-use Rattle.text.proofs.put_bytes.Reads as put-bytes-reads
 
--- src/line.rt:33:39
 slice-aggregate-put-bytes : tie.Need-slice-aggregate-put-bytes
 slice-aggregate-put-bytes c = search needs
 
--- src/line.rt:33:14
 put-bytes-requires : tie.Need-put-bytes-requires
 put-bytes-requires c κs = search needs
 
--- src/line.rt:34:39
 slice-aggregate-put-bytes-2 : tie.Need-slice-aggregate-put-bytes-2
 slice-aggregate-put-bytes-2 c = search needs
 
--- src/line.rt:34:14
 put-bytes-requires-2 : tie.Need-put-bytes-requires-2
 put-bytes-requires-2 c κs = search needs
 
--- src/line.rt:35:39
 slice-aggregate-put-bytes-3 : tie.Need-slice-aggregate-put-bytes-3
 slice-aggregate-put-bytes-3 c = search needs
 
--- src/line.rt:35:14
 put-bytes-requires-3 : tie.Need-put-bytes-requires-3
 put-bytes-requires-3 c κs = search needs
 
--- src/line.rt:36:39
 slice-aggregate-put-bytes-4 : tie.Need-slice-aggregate-put-bytes-4
 slice-aggregate-put-bytes-4 c = search needs
 
--- src/line.rt:36:14
 put-bytes-requires-4 : tie.Need-put-bytes-requires-4
 put-bytes-requires-4 c κs = search needs
 
--- src/line.rt:29:1
 same-length : tie.Need-same-length
 same-length c = search needs
 
--- src/line.rt:29:1
 returns : tie.Need-returns
 unfolding modeName
 returns c = let p = c .before .before in rw (p .before .before .before .match .keys1) (p .put-bytes .ensures)
 
--- src/line.rt:29:1
 same-length-2 : tie.Need-same-length-2
 same-length-2 c = search needs
 
--- src/line.rt:29:1
 returns-2 : tie.Need-returns-2
 unfolding modeName
 returns-2 c = let p = c .before .before in rw (p .before .before .before .match .keys2) (p .put-bytes2 .ensures)
 
--- src/line.rt:29:1
 same-length-3 : tie.Need-same-length-3
 same-length-3 c = search needs
 
--- src/line.rt:29:1
 returns-3 : tie.Need-returns-3
 unfolding modeName
 returns-3 c = let p = c .before .before in rw (p .before .before .before .match .keys3) (p .put-bytes3 .ensures)
 
--- src/line.rt:29:1
 same-length-4 : tie.Need-same-length-4
 same-length-4 c = search needs
 
--- src/line.rt:29:1
 returns-4 : tie.Need-returns-4
 unfolding modeName
 returns-4 c = let p = c .before .before in rw (p .before .before .before .match .keys4) (p .put-bytes4 .ensures)
 
--- src/line.rt:29:1
 returns-5 : tie.Need-returns-5
 returns-5 c =
     let a = c .before .before .args in

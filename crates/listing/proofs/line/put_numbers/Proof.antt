@@ -3,40 +3,28 @@ use Rattle.text.proofs.PutLaws.{put-then}
 use borrow.Author.Needs.{needs}
 use Rattle.listing.proofs.line.put_numbers.Statement.{statement}
 use Rattle.listing.proofs.line.put_numbers.Tie as tie
-use Rattle.listing.proofs.line.put_numbers.Reads as reads
-use Rattle.listing.proofs.line.put_numbers.Lts as lts
-use Rattle.listing.proofs.line.put_blank_and_decimal.Reads as put-blank-and-decimal-reads
-use Rattle.text.proofs.put_byte.Reads as put-byte-reads
 
--- src/line.rt:62:48
 cast-put-blank-and-decimal : tie.Need-cast-put-blank-and-decimal
 cast-put-blank-and-decimal c = search needs
 
--- src/line.rt:62:9
 put-blank-and-decimal-requires : tie.Need-put-blank-and-decimal-requires
 put-blank-and-decimal-requires c κs = search needs
 
--- src/line.rt:63:51
 cast-put-blank-and-decimal-2 : tie.Need-cast-put-blank-and-decimal-2
 cast-put-blank-and-decimal-2 c = search needs
 
--- src/line.rt:63:9
 put-blank-and-decimal-requires-2 : tie.Need-put-blank-and-decimal-requires-2
 put-blank-and-decimal-requires-2 c κs = search needs
 
--- src/line.rt:64:9
 put-blank-and-decimal-requires-3 : tie.Need-put-blank-and-decimal-requires-3
 put-blank-and-decimal-requires-3 c κs = search needs
 
--- src/line.rt:65:5
 put-byte-requires : tie.Need-put-byte-requires
 put-byte-requires c κs = search needs
 
--- src/line.rt:59:1
 same-length : tie.Need-same-length
 same-length c = search needs
 
--- src/line.rt:59:1
 returns : tie.Need-returns
 returns c =
     let s = c .before .before .before .before .before .before in

@@ -6,28 +6,21 @@ use Rattle.ranges.proofs.Rules.{tests}
 use borrow.Author.Needs.{needs}
 use Rattle.ranges.proofs.range.day_or_week_range.Statement.{statement}
 use Rattle.ranges.proofs.range.day_or_week_range.Tie as tie
-use Rattle.ranges.proofs.range.day_or_week_range.Reads as reads
-use Rattle.ranges.proofs.range.day_or_week_range.Lts as lts
 
--- src/range.rt:112:9
 returns : tie.Need-returns
 unfolding dayOrWeekRange
 returns c = search tests
 
--- src/range.rt:118:19
 mul-t7 : tie.Need-mul-t7
 mul-t7 c = search needs
 
--- src/range.rt:118:19
 array-read-t10 : tie.Need-array-read-t10
 array-read-t10 c = search needs
 
--- src/range.rt:108:1
 returns-2 : tie.Need-returns-2
 unfolding dayOrWeekRange
 returns-2 c = search tests
 
--- src/range.rt:108:1
 returns-3 : tie.Need-returns-3
 unfolding dayOrWeekRange
 returns-3 c = rw (eq-eqb _ _ (c .before .if1 .left), List·getD-eq-default monthDays 0 {n = c .before .before .args .month} (c .if2 .left))

@@ -7,45 +7,33 @@ use native.Mathlib.Omega.{arith}
 use borrow.Author.Needs.{needs}
 use Rattle.ranges.proofs.range.entry_range.Statement.{statement}
 use Rattle.ranges.proofs.range.entry_range.Tie as tie
-use Rattle.ranges.proofs.range.entry_range.Reads as reads
-use Rattle.ranges.proofs.range.entry_range.Lts as lts
-use Rattle.ranges.proofs.range.rate_range.Reads as rate-range-reads
-use Rattle.ranges.proofs.range.table_range.Reads as table-range-reads
 
--- src/range.rt:102:14
 rate-range-requires : tie.Need-rate-range-requires
 rate-range-requires c κs = search needs
 
--- src/range.rt:103:14
 table-range-requires : tie.Need-table-range-requires
 table-range-requires c κs = search needs
 
--- src/range.rt:95:1
 returns : tie.Need-returns
 unfolding entryRange
 returns c = rw (c .match .keys1)
 
--- src/range.rt:95:1
 returns-2 : tie.Need-returns-2
 unfolding entryRange
 returns-2 c = rw (c .match .keys2)
 
--- src/range.rt:95:1
 returns-3 : tie.Need-returns-3
 unfolding entryRange
 returns-3 c = rw (c .match .keys3)
 
--- src/range.rt:95:1
 returns-4 : tie.Need-returns-4
 unfolding entryRange
 returns-4 c = rw (c .before .match .keys4) (c .rate-range .ensures)
 
--- src/range.rt:95:1
 returns-5 : tie.Need-returns-5
 unfolding entryRange
 returns-5 c = rw (c .before .match .keys5) (c .table-range .ensures)
 
--- src/range.rt:95:1
 returns-6 : tie.Need-returns-6
 unfolding entryRange
 returns-6 c = let a = c .before .args in sym (List·getD-eq-default (between 1 255 ∷ between 0 1439 ∷ between 0 3 ∷ rateRange (a .mode) ∷ tableRange (a .mode) ∷ []) (between 0 0) {n = a .j} (omega arith))

@@ -7,40 +7,29 @@ use native.Mathlib.Omega.{arith}
 use borrow.Author.Needs.{needs}
 use Rattle.ranges.proofs.range.holiday_range.Statement.{statement}
 use Rattle.ranges.proofs.range.holiday_range.Tie as tie
-use Rattle.ranges.proofs.range.holiday_range.Reads as reads
-use Rattle.ranges.proofs.range.holiday_range.Lts as lts
-use Rattle.ranges.proofs.range.day_or_week_range.Reads as day-or-week-range-reads
-use Rattle.ranges.proofs.range.weekday_range.Reads as weekday-range-reads
 
--- src/range.rt:142:14
 day-or-week-range-requires : tie.Need-day-or-week-range-requires
 day-or-week-range-requires c κs = search needs
 
--- src/range.rt:143:14
 weekday-range-requires : tie.Need-weekday-range-requires
 weekday-range-requires c κs = search needs
 
--- src/range.rt:136:1
 returns : tie.Need-returns
 unfolding holidayRange
 returns c = rw (c .match .keys1)
 
--- src/range.rt:136:1
 returns-2 : tie.Need-returns-2
 unfolding holidayRange
 returns-2 c = rw (c .match .keys2)
 
--- src/range.rt:136:1
 returns-3 : tie.Need-returns-3
 unfolding holidayRange
 returns-3 c = rw (c .before .match .keys3) (c .day-or-week-range .ensures)
 
--- src/range.rt:136:1
 returns-4 : tie.Need-returns-4
 unfolding holidayRange
 returns-4 c = rw (c .before .match .keys4) (c .weekday-range .ensures)
 
--- src/range.rt:136:1
 returns-5 : tie.Need-returns-5
 unfolding holidayRange
 returns-5 c = let a = c .before .args in sym (List·getD-eq-default (between 1 3 ∷ between 1 12 ∷ dayOrWeekRange (a .kind) (a .month) ∷ weekdayRange (a .kind) ∷ []) (between 0 0) {n = a .j} (omega arith))

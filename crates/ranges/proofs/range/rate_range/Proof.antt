@@ -3,15 +3,11 @@ use Rattle.ranges.specs.Ranges.{rateRange}
 use Rattle.ranges.proofs.Rules.{tests}
 use Rattle.ranges.proofs.range.rate_range.Statement.{statement}
 use Rattle.ranges.proofs.range.rate_range.Tie as tie
-use Rattle.ranges.proofs.range.rate_range.Reads as reads
-use Rattle.ranges.proofs.range.rate_range.Lts as lts
 
--- src/range.rt:77:1
 returns : tie.Need-returns
 unfolding rateRange
 returns c = search tests
 
--- src/range.rt:77:1
 returns-2 : tie.Need-returns-2
 unfolding rateRange
 returns-2 c = search tests

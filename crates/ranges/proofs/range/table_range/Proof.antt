@@ -3,15 +3,11 @@ use Rattle.ranges.specs.Ranges.{tableRange}
 use Rattle.ranges.proofs.Rules.{tests}
 use Rattle.ranges.proofs.range.table_range.Statement.{statement}
 use Rattle.ranges.proofs.range.table_range.Tie as tie
-use Rattle.ranges.proofs.range.table_range.Reads as reads
-use Rattle.ranges.proofs.range.table_range.Lts as lts
 
--- src/range.rt:84:1
 returns : tie.Need-returns
 unfolding tableRange
 returns c = search tests
 
--- src/range.rt:84:1
 returns-2 : tie.Need-returns-2
 unfolding tableRange
 returns-2 c = search tests

@@ -7,28 +7,21 @@ use Rattle.ranges.proofs.Rules.{tests}
 use borrow.Author.Needs.{needs}
 use Rattle.ranges.proofs.range.timing_range.Statement.{statement}
 use Rattle.ranges.proofs.range.timing_range.Tie as tie
-use Rattle.ranges.proofs.range.timing_range.Reads as reads
-use Rattle.ranges.proofs.range.timing_range.Lts as lts
 
--- src/range.rt:68:9
 returns : tie.Need-returns
 unfolding timingRange
 returns c = search tests
 
--- src/range.rt:73:17
 mul-result : tie.Need-mul-result
 mul-result c = search needs
 
--- src/range.rt:73:17
 array-copy-out-result : tie.Need-array-copy-out-result
 array-copy-out-result c = search needs
 
--- src/range.rt:64:1
 returns-2 : tie.Need-returns-2
 unfolding timingRange
 returns-2 c = search tests
 
--- src/range.rt:64:1
 returns-3 : tie.Need-returns-3
 unfolding timingRange
 returns-3 c = rw (ne-eqb _ _ (c .before .if1 .left)) (sym (List·getD-eq-default timingRanges (between 0 0) {n = c .before .before .args .i} (c .if2 .left)))
