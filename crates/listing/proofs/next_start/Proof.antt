@@ -1,5 +1,5 @@
-use Rattle.listing.proofs.Turns.{next-turn}
 -- The loop's invariant: best is at or after `from`, and no later than any such start that was passed.
+use Rattle.listing.proofs.Turns.{next-turn}
 use Rattle.listing.specs.NextStart.{NextStart}
 use Rattle.plan.specs.declared.Entry.{Entry}
 use Prim.Native.Nat.{_≤_, _-_}

@@ -1,5 +1,5 @@
-use Rattle.text.specs.Put.{farthest}
 -- The loop's invariant: what is left to put, from its place on, leaves what the whole text leaves.
+use Rattle.text.specs.Put.{farthest}
 use Rattle.text.proofs.PutLaws.{sets-out}
 use lib.Seq.{sets, drop-cons}
 use lib.ListN.{length, drop, drop-of-length-le}

@@ -1,5 +1,5 @@
-use Rattle.listing.proofs.Names.{no-mode}
 -- Each arm is the definition's name; past the fourth mode there is none.
+use Rattle.listing.proofs.Names.{no-mode}
 use Rattle.listing.specs.Timetable.{modeName}
 use Rattle.text.proofs.PutLaws.{put-nothing}
 use native.Mathlib.Omega.{arith}

@@ -1,6 +1,6 @@
+-- The table is the definition's; beyond it a month has no day.
 use lib.ListN.{List·getD-eq-default}
 use borrow.Author.Tests.{eq-eqb}
--- The table is the definition's; beyond it a month has no day.
 use Rattle.ranges.specs.Ranges.{dayOrWeekRange, monthDays}
 use Rattle.ranges.proofs.Rules.{tests}
 use borrow.Author.Needs.{needs}

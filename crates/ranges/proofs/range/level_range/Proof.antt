@@ -1,6 +1,6 @@
+-- The table is the definition's; beyond it there is only 0.
 use lib.ListN.{List·getD-eq-default}
 use mathlib.Core.Path.{sym}
--- The table is the definition's; beyond it there is only 0.
 use Rattle.ranges.specs.Ranges.{levelRange, between, levelRanges}
 use Rattle.ranges.proofs.Rules.{tests}
 use borrow.Author.Needs.{needs}

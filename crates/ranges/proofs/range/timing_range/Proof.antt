@@ -1,7 +1,7 @@
+-- The table is the definition's; beyond it there is only 0.
 use lib.ListN.{List·getD-eq-default}
 use borrow.Author.Tests.{ne-eqb}
 use mathlib.Core.Path.{sym}
--- The table is the definition's; beyond it there is only 0.
 use Rattle.ranges.specs.Ranges.{timingRange, between, timingRanges}
 use Rattle.ranges.proofs.Rules.{tests}
 use borrow.Author.Needs.{needs}
