@@ -16,8 +16,12 @@ returns c =
     let o : length (a .t1 .occupied) ≡ 6 = search needs in
     let v : length (a .t1 .vehicles) ≡ 6 = search needs in
     let p : length (a .t1 .speed) ≡ 6 = search needs in
-    rw (List·getD-eq-default (a .t1 .working) 0 {n = a .j} (omega arith), List·getD-eq-default (a .t1 .occupied) 0 {n = a .j} (omega arith),
-      List·getD-eq-default (a .t1 .vehicles) 0 {n = a .j} (omega arith), List·getD-eq-default (a .t1 .speed) 0 {n = a .j} (omega arith))
+    rw (
+      List·getD-eq-default (a .t1 .working) 0 {n = a .j} (omega arith),
+      List·getD-eq-default (a .t1 .occupied) 0 {n = a .j} (omega arith),
+      List·getD-eq-default (a .t1 .vehicles) 0 {n = a .j} (omega arith),
+      List·getD-eq-default (a .t1 .speed) 0 {n = a .j} (omega arith),
+    )
 
 -- src/lib.rt:86:18
 mul-t6 : tie.Need-mul-t6

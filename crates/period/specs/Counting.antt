@@ -1,0 +1,73 @@
+-- Document 01, 'One tick's input', 'What is wanted', 'Poll record': what a tick counts. "The 300th tick's counts close the period."
+use Prim.Native.Nat.{ℕ, _+_, _≤_, _<_}
+use mathlib.Core.Bool.{Bool, cond}
+use mathlib.Core.List.{List, [], _∷_}
+use lib.Dec.{ltb, eqb}
+use lib.ListN.{getD}
+use Rattle.inputs.specs.declared.Metered.{Metered}
+use Rattle.inputs.specs.declared.Mainline.{Mainline}
+use Rattle.inputs.specs.declared.LaneSample.{LaneSample}
+use Rattle.inputs.specs.Samples.{laneSampleOf}
+use Rattle.period.specs.declared.Counts.{Counts}
+use Rattle.period.specs.declared.LaneCounts.{LaneCounts}
+use Rattle.period.specs.declared.Periods.{Periods}
+use Rattle.period.specs.Counts.{laneOf, noCounts}
+
+-- "Lanes not working add nothing." "A speed without a vehicle is ignored"; 0 is no speed.
+unfoldable pub laneCounted : LaneCounts → LaneSample → LaneCounts
+laneCounted c s =
+    cond (eqb (s .working) 1)
+    (cond (eqb (s .vehicles) 1)
+    (cond (eqb (s .speed) 0)
+    (record { worked = c .worked + 1; vehicles = c .vehicles + 1; occupied = c .occupied + s .occupied; timed = c .timed; speeds = c .speeds })
+    (record { worked = c .worked + 1; vehicles = c .vehicles + 1; occupied = c .occupied + s .occupied; timed = c .timed + 1; speeds = c .speeds + s .speed }))
+    (record { worked = c .worked + 1; vehicles = c .vehicles; occupied = c .occupied + s .occupied; timed = c .timed; speeds = c .speeds }))
+    c
+
+-- "Lanes beyond n or m are ignored."
+unfoldable pub laneCountedAt : Counts → Mainline → ℕ → ℕ → LaneCounts
+laneCountedAt c s m j = cond (ltb j m) (laneCounted (laneOf c j) (laneSampleOf s j)) (laneOf c j)
+
+unfoldable pub passagesAt : Counts → Metered → ℕ → ℕ → ℕ
+passagesAt c s n i = cond (ltb i n) (getD (c .passages) i 0 + getD (s .passage) i 0) (getD (c .passages) i 0)
+
+-- What stands at lanes 0 to 3, and 0 to 5.
+abbrev pub four : {A : Type 0} → (ℕ → A) → List A
+four f = f 0 ∷ f 1 ∷ f 2 ∷ f 3 ∷ []
+
+abbrev pub six : {A : Type 0} → (ℕ → A) → List A
+six f = f 0 ∷ f 1 ∷ f 2 ∷ f 3 ∷ f 4 ∷ f 5 ∷ []
+
+-- The open period's counts, with this tick's.
+unfoldable pub countedOf : Counts → Metered → Mainline → ℕ → ℕ → Counts
+countedOf c lanes main n m = record {
+  passages = four (passagesAt c lanes n);
+  greens = c .greens;
+  worked = six (λ j. laneCountedAt c main m j .worked);
+  vehicles = six (λ j. laneCountedAt c main m j .vehicles);
+  occupied = six (λ j. laneCountedAt c main m j .occupied);
+  timed = six (λ j. laneCountedAt c main m j .timed);
+  speeds = six (λ j. laneCountedAt c main m j .speeds);
+}
+
+-- "From 1, staying at 4294967295."
+unfoldable pub nextSerial : ℕ → ℕ
+nextSerial serial = cond (eqb serial 4294967295) serial (serial + 1)
+
+-- The tick is counted, and closes the period if it is the 300th.
+unfoldable pub closedOf : Periods → Counts → Periods
+closedOf p c =
+    cond (ltb (p .ticks) 299)
+    (record { ticks = p .ticks + 1; current = c; serial = p .serial; last = p .last })
+    (record { ticks = 0; current = noCounts; serial = nextSerial (p .serial); last = c })
+
+unfoldable pub afterTick : Periods → Metered → Mainline → ℕ → ℕ → Periods
+afterTick p lanes main n m = closedOf p (countedOf (p .current) lanes main n m)
+
+-- What counting asks so that no number of the machine is too small; a lane in range at fewer than 300 ticks has it.
+pub record LaneRoom (c : LaneCounts) (s : LaneSample) : Type 0 where
+  pub worked : c .worked < 300
+  pub vehicles : c .vehicles < 300
+  pub occupied : c .occupied + s .occupied ≤ 30000
+  pub timed : c .timed < 300
+  pub speeds : c .speeds + s .speed ≤ 75000

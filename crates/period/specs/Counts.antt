@@ -1,0 +1,27 @@
+-- Document 01, 'What is wanted' and 'A state is spoilt if': what is kept of a period. Lanes are counted from 0.
+use Prim.Native.Nat.{ℕ}
+use mathlib.Core.List.{List, [], _∷_}
+use lib.ListN.{getD, replicate}
+use Rattle.period.specs.declared.Counts.{Counts}
+use Rattle.period.specs.declared.LaneCounts.{LaneCounts}
+
+-- Mainline lane j's counts.
+abbrev pub laneOf : Counts → ℕ → LaneCounts
+laneOf c j = record {
+  worked = getD (c .worked) j 0;
+  vehicles = getD (c .vehicles) j 0;
+  occupied = getD (c .occupied) j 0;
+  timed = getD (c .timed) j 0;
+  speeds = getD (c .speeds) j 0;
+}
+
+abbrev pub noCounts : Counts
+noCounts = record {
+  passages = replicate 4 0;
+  greens = replicate 4 0;
+  worked = replicate 6 0;
+  vehicles = replicate 6 0;
+  occupied = replicate 6 0;
+  timed = replicate 6 0;
+  speeds = replicate 6 0;
+}
