@@ -1,6 +1,6 @@
 -- Document 01, 'One tick's input': "Two commands, manual and communications: kind 0 none, 1 dark, 2 green, 3 fixed, 4 responsive; rate in
 -- kinds 3 and 4, table in kind 4, ranges as in entries, other fields 0."
-use Prim.Native.Nat.{ℕ, _-_}
+use Prim.Native.Nat.{_-_}
 use mathlib.Core.Bool.{Bool, not, _||_}
 use lib.Dec.{ltb}
 use Rattle.ranges.specs.Ranges.{isWithin, rateRange, tableRange}

@@ -1,6 +1,6 @@
 -- Document 01, 'One tick's input', 'What is wanted', 'Poll record': what a tick counts. "The 300th tick's counts close the period."
 use Prim.Native.Nat.{ℕ, _+_, _≤_, _<_}
-use mathlib.Core.Bool.{Bool, cond}
+use mathlib.Core.Bool.{cond}
 use mathlib.Core.List.{List, [], _∷_}
 use lib.Dec.{ltb, eqb}
 use lib.ListN.{getD}

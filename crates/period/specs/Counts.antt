@@ -1,6 +1,5 @@
 -- Document 01, 'What is wanted' and 'A state is spoilt if': what is kept of a period. Lanes are counted from 0.
 use Prim.Native.Nat.{ℕ}
-use mathlib.Core.List.{List, [], _∷_}
 use lib.ListN.{getD, replicate}
 use Rattle.period.specs.declared.Counts.{Counts}
 use Rattle.period.specs.declared.LaneCounts.{LaneCounts}

@@ -10,10 +10,6 @@ use native.Mathlib.Omega.{arith}
 use borrow.Author.Needs.{needs}
 use Rattle.inputs.proofs.any_lane_bad.Statement.{statement}
 use Rattle.inputs.proofs.any_lane_bad.Tie as tie
-use Rattle.inputs.proofs.any_lane_bad.Reads as reads
-use Rattle.inputs.proofs.any_lane_bad.Lts as lts
-use Rattle.inputs.proofs.lane_bad.Reads as lane-bad-reads
-use Rattle.inputs.proofs.lane_sample.Reads as lane-sample-reads
 
 abbrev bad : Mainline → ℕ → Bool
 bad s j = laneBad (laneSampleOf s j)
@@ -27,39 +23,31 @@ abbrev μ-loop : tie.MeasureT-loop
 is-bad : (c : tie.After-lane-bad Inv-loop μ-loop) → c .lane-bad .result ≡ bad (c .before .before .before .before .args .s) (c .before .before .before .loop .j)
 is-bad c = c .lane-bad .ensures ∙ ap laneBad (c .before .lane-sample .ensures)
 
--- src/lib.rt:136:5
 loop-holds : tie.Need-loop-holds Inv-loop μ-loop
 loop-holds c = let e : c .args .m - 0 ≡ c .args .m = omega arith in (search needs, rw e)
 
--- src/lib.rt:137:21
 lane-sample-requires : tie.Need-lane-sample-requires Inv-loop μ-loop
 lane-sample-requires c κs = search needs
 
--- src/lib.rt:137:12
 lane-bad-requires : tie.Need-lane-bad-requires Inv-loop μ-loop
 lane-bad-requires c κs = search needs
 
--- src/lib.rt:138:13
 returns : tie.Need-returns Inv-loop μ-loop
 returns c =
     let h = c .before .before .before .before in
     any-found (bad (h .before .args .s)) (h .loop .j) (h .before .args .m) (search needs) (sym (is-bad (c .before)) ∙ c .if1 .taken) ∙ h .loop .inv .1
 
--- src/lib.rt:140:9
 add-j : tie.Need-add-j Inv-loop μ-loop
 add-j c = search needs
 
--- src/lib.rt:136:5
 loop-less : tie.Need-loop-less Inv-loop μ-loop
 loop-less c = search needs
 
--- src/lib.rt:136:5
 loop-again : tie.Need-loop-again Inv-loop μ-loop
 loop-again c =
     let h = c .before .before .before .before in
     (search needs, any-turn (bad (h .before .args .s)) (h .loop .j) (h .before .args .m) (search needs) (sym (is-bad (c .before)) ∙ c .if1 .left) ∙ h .loop .inv .1)
 
--- src/lib.rt:132:1
 returns-2 : tie.Need-returns-2 Inv-loop μ-loop
 returns-2 c =
     let h = c .before in

@@ -10,10 +10,6 @@ use native.Mathlib.Omega.{arith}
 use borrow.Author.Needs.{needs}
 use Rattle.inputs.proofs.any_metered_bad.Statement.{statement}
 use Rattle.inputs.proofs.any_metered_bad.Tie as tie
-use Rattle.inputs.proofs.any_metered_bad.Reads as reads
-use Rattle.inputs.proofs.any_metered_bad.Lts as lts
-use Rattle.inputs.proofs.metered_bad.Reads as metered-bad-reads
-use Rattle.inputs.proofs.metered_sample.Reads as metered-sample-reads
 
 abbrev bad : Metered → ℕ → Bool
 bad s i = meteredBad (meteredSampleOf s i)
@@ -27,39 +23,31 @@ abbrev μ-loop : tie.MeasureT-loop
 is-bad : (c : tie.After-metered-bad Inv-loop μ-loop) → c .metered-bad .result ≡ bad (c .before .before .before .before .args .s) (c .before .before .before .loop .i)
 is-bad c = c .metered-bad .ensures ∙ ap meteredBad (c .before .metered-sample .ensures)
 
--- src/lib.rt:122:5
 loop-holds : tie.Need-loop-holds Inv-loop μ-loop
 loop-holds c = let e : c .args .n - 0 ≡ c .args .n = omega arith in (search needs, rw e)
 
--- src/lib.rt:123:24
 metered-sample-requires : tie.Need-metered-sample-requires Inv-loop μ-loop
 metered-sample-requires c κs = search needs
 
--- src/lib.rt:123:12
 metered-bad-requires : tie.Need-metered-bad-requires Inv-loop μ-loop
 metered-bad-requires c κs = search needs
 
--- src/lib.rt:124:13
 returns : tie.Need-returns Inv-loop μ-loop
 returns c =
     let h = c .before .before .before .before in
     any-found (bad (h .before .args .s)) (h .loop .i) (h .before .args .n) (search needs) (sym (is-bad (c .before)) ∙ c .if1 .taken) ∙ h .loop .inv .1
 
--- src/lib.rt:126:9
 add-i : tie.Need-add-i Inv-loop μ-loop
 add-i c = search needs
 
--- src/lib.rt:122:5
 loop-less : tie.Need-loop-less Inv-loop μ-loop
 loop-less c = search needs
 
--- src/lib.rt:122:5
 loop-again : tie.Need-loop-again Inv-loop μ-loop
 loop-again c =
     let h = c .before .before .before .before in
     (search needs, any-turn (bad (h .before .args .s)) (h .loop .i) (h .before .args .n) (search needs) (sym (is-bad (c .before)) ∙ c .if1 .left) ∙ h .loop .inv .1)
 
--- src/lib.rt:118:1
 returns-2 : tie.Need-returns-2 Inv-loop μ-loop
 returns-2 c =
     let h = c .before in

@@ -2,50 +2,36 @@
 use Rattle.inputs.specs.Commands.{commandBad}
 use borrow.Author.Tests.{lt-ltb, le-ltb, not-true, not-false}
 use mathlib.Core.Bool.{true, not}
-use mathlib.Core.Path.{_≡_, ap, sym, _∙_}
+use mathlib.Core.Path.{ap}
 use borrow.Author.Needs.{needs}
 use Rattle.inputs.proofs.command_bad.Statement.{statement}
 use Rattle.inputs.proofs.command_bad.Tie as tie
-use Rattle.inputs.proofs.command_bad.Reads as reads
-use Rattle.inputs.proofs.command_bad.Lts as lts
-use Rattle.inputs.proofs.mode_of.Reads as mode-of-reads
-use Rattle.ranges.proofs.rate_range.Reads as rate-range-reads
-use Rattle.ranges.proofs.table_range.Reads as table-range-reads
-use Rattle.ranges.proofs.within.Reads as within-reads
 
--- src/lib.rt:166:9
 returns : tie.Need-returns
 unfolding commandBad
 returns c = rw (lt-ltb _ _ (c .if1 .taken))
 
--- src/lib.rt:168:9
 mode-of-requires : tie.Need-mode-of-requires
 mode-of-requires c κs = search needs
 
--- src/lib.rt:169:24
 rate-range-requires : tie.Need-rate-range-requires
 rate-range-requires c κs = search needs
 
--- src/lib.rt:169:9
 within-requires : tie.Need-within-requires
 within-requires c κs = search needs
 
--- src/lib.rt:170:9
 returns-2 : tie.Need-returns-2
 unfolding commandBad
 returns-2 c =
     let m = c .before .before .before in
     rw (le-ltb _ _ (m .before .if1 .left), ← m .mode-of .ensures, ← c .before .before .rate-range .ensures, ← c .before .within .ensures, not-true (c .before .within .result) (c .if2 .taken))
 
--- src/lib.rt:172:21
 table-range-requires : tie.Need-table-range-requires
 table-range-requires c κs = search needs
 
--- src/lib.rt:172:6
 within-requires-2 : tie.Need-within-requires-2
 within-requires-2 c κs = search needs
 
--- src/lib.rt:162:1
 returns-3 : tie.Need-returns-3
 unfolding commandBad
 returns-3 c =

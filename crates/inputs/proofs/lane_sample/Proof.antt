@@ -1,14 +1,11 @@
 -- Past the arrays' end a sample reads as 0.
 use lib.ListN.{length, List·getD-eq-default}
 use native.Mathlib.Omega.{arith}
-use mathlib.Core.Path.{_≡_, sym}
+use mathlib.Core.Path.{_≡_}
 use borrow.Author.Needs.{needs}
 use Rattle.inputs.proofs.lane_sample.Statement.{statement}
 use Rattle.inputs.proofs.lane_sample.Tie as tie
-use Rattle.inputs.proofs.lane_sample.Reads as reads
-use Rattle.inputs.proofs.lane_sample.Lts as lts
 
--- src/lib.rt:78:9
 returns : tie.Need-returns
 returns c =
     let a = c .before .args in
@@ -23,39 +20,30 @@ returns c =
       List·getD-eq-default (a .t1 .speed) 0 {n = a .j} (omega arith),
     )
 
--- src/lib.rt:86:18
 mul-t6 : tie.Need-mul-t6
 mul-t6 c = search needs
 
--- src/lib.rt:86:18
 element-copy-out-t9 : tie.Need-element-copy-out-t9
 element-copy-out-t9 c = search needs
 
--- src/lib.rt:87:19
 mul-t10 : tie.Need-mul-t10
 mul-t10 c = search needs
 
--- src/lib.rt:87:19
 element-copy-out-t13 : tie.Need-element-copy-out-t13
 element-copy-out-t13 c = search needs
 
--- src/lib.rt:88:19
 mul-t14 : tie.Need-mul-t14
 mul-t14 c = search needs
 
--- src/lib.rt:88:19
 element-copy-out-t17 : tie.Need-element-copy-out-t17
 element-copy-out-t17 c = search needs
 
--- src/lib.rt:89:16
 mul-t18 : tie.Need-mul-t18
 mul-t18 c = search needs
 
--- src/lib.rt:89:16
 element-copy-out-t21 : tie.Need-element-copy-out-t21
 element-copy-out-t21 c = search needs
 
--- src/lib.rt:73:1
 returns-2 : tie.Need-returns-2
 returns-2 c = search needs
 

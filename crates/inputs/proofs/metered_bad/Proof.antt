@@ -3,15 +3,11 @@ use Rattle.inputs.specs.Samples.{meteredBad}
 use Rattle.inputs.proofs.Rules.{tests}
 use Rattle.inputs.proofs.metered_bad.Statement.{statement}
 use Rattle.inputs.proofs.metered_bad.Tie as tie
-use Rattle.inputs.proofs.metered_bad.Reads as reads
-use Rattle.inputs.proofs.metered_bad.Lts as lts
 
--- src/lib.rt:97:9
 returns : tie.Need-returns
 unfolding meteredBad
 returns c = search tests
 
--- src/lib.rt:93:1
 returns-2 : tie.Need-returns-2
 unfolding meteredBad
 returns-2 c = search tests

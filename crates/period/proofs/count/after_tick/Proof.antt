@@ -1,22 +1,26 @@
+-- The counts, then the period's end; both keep the range.
+use Rattle.period.proofs.RangeLaws.{periods-good, good-periods, periods-after}
+use Rattle.period.specs.Counting.{closedOf, afterTick}
+use mathlib.Core.Path.{_≡_, ap, _∙_}
 use borrow.Author.Needs.{needs}
 use Rattle.period.proofs.count.after_tick.Statement.{statement}
 use Rattle.period.proofs.count.after_tick.Tie as tie
-use Rattle.period.proofs.count.after_tick.Reads as reads
-use Rattle.period.proofs.count.after_tick.Lts as lts
-use Rattle.period.proofs.count.closed.Reads as closed-reads
-use Rattle.period.proofs.count.counted.Reads as counted-reads
 
--- src/count.rt:174:15
+is : (c : tie.After-closed) → let a = c .before .before .args in c .closed .result ≡ afterTick (a .p) (a .lanes) (a .main) (a .n) (a .m)
+unfolding afterTick
+is c = c .closed .ensures ∙ ap (closedOf (c .before .before .args .p)) (c .before .counted .ensures)
+
 counted-requires : tie.Need-counted-requires
 counted-requires c κs = search needs
 
--- src/count.rt:174:5
 closed-requires : tie.Need-closed-requires
 closed-requires c κs = search needs
 
--- src/count.rt:169:1
 returns : tie.Need-returns
-returns c = ?
+returns c =
+    let s = c .before .before in
+    let a = s .args in
+    (is c, rw (is c) (good-periods _ (a .n) (a .m) (periods-after (a .p) (a .lanes) (a .main) (a .n) (a .m) (periods-good (a .p) (a .n) (a .m) (s .pre .0)) (s .pre .1))))
 
 pub after-tick-spec : {M : Type 1} → statement M
 after-tick-spec = tie.close (tie.spec counted-requires closed-requires returns)

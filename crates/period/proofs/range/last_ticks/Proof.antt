@@ -1,15 +1,16 @@
+-- The code's tests are the definition's.
+use Rattle.period.specs.Range.{lastTicks}
+use Rattle.period.proofs.Rules.{tests}
 use Rattle.period.proofs.range.last_ticks.Statement.{statement}
 use Rattle.period.proofs.range.last_ticks.Tie as tie
-use Rattle.period.proofs.range.last_ticks.Reads as reads
-use Rattle.period.proofs.range.last_ticks.Lts as lts
 
--- src/range.rt:81:1
 returns : tie.Need-returns
-returns c = ?
+unfolding lastTicks
+returns c = search tests
 
--- src/range.rt:81:1
 returns-2 : tie.Need-returns-2
-returns-2 c = ?
+unfolding lastTicks
+returns-2 c = search tests
 
 pub last-ticks-spec : {M : Type 1} → statement M
 last-ticks-spec = tie.close (tie.spec returns returns-2)

@@ -1,0 +1,278 @@
+-- What it tells of counts that they are in range, and that counting a tick keeps them so.
+use Prim.Native.Nat.{ℕ, zero, suc, _+_, _*_, _≤_, _<_}
+use mathlib.Core.Path.{_≡_, refl}
+use mathlib.Core.Bool.{Bool, true, false}
+use native.Mathlib.Omega.{arith}
+use borrow.Author.Tests.{lt-ltb, le-ltb, ltb-true, ltb-false, ne-eqb, eqb-true}
+use lib.Dec.{ltb, eqb}
+use lib.ListN.{getD, replicate}
+use Rattle.loops.specs.Any.{anyFrom}
+use Rattle.loops.proofs.AnyLaws.{neither, none-of, any-of-none}
+use Rattle.inputs.specs.declared.Metered.{Metered}
+use Rattle.inputs.specs.declared.Mainline.{Mainline}
+use Rattle.inputs.specs.declared.LaneSample.{LaneSample}
+use Rattle.inputs.specs.Samples.{meteredSampleOf, laneSampleOf, meteredBad, laneBad, samplesBad}
+use Rattle.period.specs.declared.Counts.{Counts}
+use Rattle.period.specs.declared.LaneCounts.{LaneCounts}
+use Rattle.period.specs.declared.Periods.{Periods}
+use Rattle.period.specs.Counts.{laneOf, noCounts}
+use Rattle.period.specs.Range.{mostTicks, laneSpoilt, meteredSpoilt, countsSpoilt, lastTicks, periodsSpoilt}
+use Rattle.period.specs.Counting.{laneCounted, laneCountedAt, passagesAt, countedOf, nextSerial, closedOf, afterTick, LaneRoom}
+
+-- A mainline lane's counts in range at so many ticks.
+pub record LaneGood (c : LaneCounts) (t : ℕ) : Type 0 where
+  pub worked : c .worked ≤ t
+  pub vehicles : c .vehicles ≤ t
+  pub occupied : c .occupied ≤ 100 * t
+  pub timed : c .timed ≤ c .vehicles
+  pub speeds : c .speeds ≤ 250 * c .timed
+
+pub lane-good : (c : LaneCounts) (t : ℕ) → laneSpoilt c t ≡ false → LaneGood c t
+unfolding laneSpoilt
+lane-good c t e =
+    let a = neither _ _ e in
+    let b = neither _ _ (a .1) in
+    let d = neither _ _ (b .1) in
+    let f = neither _ _ (d .1) in
+    record {
+      worked = ltb-false t (c .worked) (a .0);
+      vehicles = ltb-false t (c .vehicles) (b .0);
+      occupied = ltb-false (100 * t) (c .occupied) (d .0);
+      timed = ltb-false (c .vehicles) (c .timed) (f .0);
+      speeds = ltb-false (250 * c .timed) (c .speeds) (f .1);
+    }
+
+pub good-lane : (c : LaneCounts) (t : ℕ) → LaneGood c t → laneSpoilt c t ≡ false
+unfolding laneSpoilt
+good-lane c t g = rw (le-ltb _ _ (g .worked), le-ltb _ _ (g .vehicles), le-ltb _ _ (g .occupied), le-ltb _ _ (g .timed), le-ltb _ _ (g .speeds))
+
+-- A mainline lane's samples in range.
+pub record SampleGood (s : LaneSample) : Type 0 where
+  pub occupied : s .occupied ≤ 100
+  pub speed : s .speed ≤ 250
+
+pub sample-good : (s : LaneSample) → laneBad s ≡ false → SampleGood s
+unfolding laneBad
+sample-good s e =
+    let a = neither (ltb 1 (s .working)) _ e in
+    let b = neither (ltb 100 (s .occupied)) _ (a .1) in
+    let d = neither (ltb 1 (s .vehicles)) _ (b .1) in
+    record { occupied = ltb-false 100 (s .occupied) (b .0); speed = ltb-false 250 (s .speed) (d .1) }
+
+-- A lane in range at fewer than 300 ticks has room for one tick more,
+pub lane-room : (c : LaneCounts) (s : LaneSample) (t : ℕ) → LaneGood c t → SampleGood s → t < 300 → LaneRoom c s
+lane-room c s t g h l = record {
+  worked = omega (arith, g .worked);
+  vehicles = omega (arith, g .vehicles);
+  occupied = omega (arith, g .occupied, h .occupied);
+  timed = omega (arith, g .timed, g .vehicles);
+  speeds = omega (arith, g .speeds, g .timed, g .vehicles, h .speed);
+}
+
+-- and is in range then.
+counted-case : (c : LaneCounts) (s : LaneSample) (t : ℕ) (w v z : Bool) → eqb (s .working) 1 ≡ w → eqb (s .vehicles) 1 ≡ v → eqb (s .speed) 0 ≡ z
+    → LaneGood c t → SampleGood s → LaneGood (laneCounted c s) (t + 1)
+unfolding laneCounted
+counted-case c s t false v z ew ev ez g h =
+    rw ew (record { worked = omega (arith, g .worked); vehicles = omega (arith, g .vehicles); occupied = omega (arith, g .occupied); timed = g .timed; speeds = g .speeds })
+counted-case c s t true false z ew ev ez g h =
+    rw (ew, ev)
+    (record { worked = omega (arith, g .worked); vehicles = omega (arith, g .vehicles); occupied = omega (arith, g .occupied, h .occupied); timed = g .timed; speeds = g .speeds })
+counted-case c s t true true true ew ev ez g h =
+    rw (ew, ev, ez)
+    (record { worked = omega (arith, g .worked); vehicles = omega (arith, g .vehicles); occupied = omega (arith, g .occupied, h .occupied); timed = omega (arith, g .timed); speeds = g .speeds })
+counted-case c s t true true false ew ev ez g h =
+    rw (ew, ev, ez)
+    (record { worked = omega (arith, g .worked); vehicles = omega (arith, g .vehicles); occupied = omega (arith, g .occupied, h .occupied); timed = omega (arith, g .timed); speeds = omega (arith, g .speeds, h .speed) })
+
+pub counted-good : (c : LaneCounts) (s : LaneSample) (t : ℕ) → LaneGood c t → SampleGood s → LaneGood (laneCounted c s) (t + 1)
+counted-good c s t g h = counted-case c s t _ _ _ refl refl refl g h
+
+most-in : (i k t : ℕ) → i < k → mostTicks i k t ≡ t
+unfolding mostTicks
+most-in i k t h = rw (lt-ltb _ _ h)
+
+most-out : (i k t : ℕ) → k ≤ i → mostTicks i k t ≡ 0
+unfolding mostTicks
+most-out i k t h = rw (le-ltb _ _ h)
+
+-- A period's counts in range at so many ticks.
+pub record CountsGood (c : Counts) (n m t : ℕ) : Type 0 where
+  pub passages : (i : ℕ) → i < 4 → getD (c .passages) i 0 ≤ mostTicks i n t
+  pub greens : (i : ℕ) → i < 4 → getD (c .greens) i 0 ≤ mostTicks i n t
+  pub lanes : (j : ℕ) → j < 6 → LaneGood (laneOf c j) (mostTicks j m t)
+
+metered-good : (a b t : ℕ) → meteredSpoilt a b t ≡ false → (a ≤ t) × (b ≤ t)
+unfolding meteredSpoilt
+metered-good a b t e = let s = neither _ _ e in (ltb-false t a (s .0), ltb-false t b (s .1))
+
+good-metered : (a b t : ℕ) → a ≤ t → b ≤ t → meteredSpoilt a b t ≡ false
+unfolding meteredSpoilt
+good-metered a b t h k = rw (le-ltb _ _ h, le-ltb _ _ k)
+
+module _ (c : Counts) (n m t : ℕ) where
+  abbrev metered-bad : ℕ → Bool
+  metered-bad i = meteredSpoilt (getD (c .passages) i 0) (getD (c .greens) i 0) (mostTicks i n t)
+
+  abbrev lane-bad : ℕ → Bool
+  lane-bad j = laneSpoilt (laneOf c j) (mostTicks j m t)
+
+  pub counts-good : countsSpoilt c n m t ≡ false → CountsGood c n m t
+  unfolding countsSpoilt
+  counts-good e =
+      let s = neither (anyFrom metered-bad 0 4) (anyFrom lane-bad 0 6) e in
+      record {
+        passages = λ i h. metered-good _ _ _ (none-of metered-bad 0 4 (s .0) i (omega arith) (omega arith)) .0;
+        greens = λ i h. metered-good _ _ _ (none-of metered-bad 0 4 (s .0) i (omega arith) (omega arith)) .1;
+        lanes = λ j h. lane-good _ _ (none-of lane-bad 0 6 (s .1) j (omega arith) (omega arith));
+      }
+
+  pub good-counts : CountsGood c n m t → countsSpoilt c n m t ≡ false
+  unfolding countsSpoilt
+  good-counts g =
+      rw (
+        any-of-none metered-bad 0 4 (λ i l h. good-metered _ _ _ (g .passages i (omega arith)) (g .greens i (omega arith))),
+        any-of-none lane-bad 0 6 (λ j l h. good-lane _ _ (g .lanes j (omega arith))),
+      )
+
+-- The samples in range.
+module _ (lanes : Metered) (main : Mainline) (n m : ℕ) (e : samplesBad lanes main n m ≡ false) where
+  abbrev metered-sample-bad : ℕ → Bool
+  metered-sample-bad i = meteredBad (meteredSampleOf lanes i)
+
+  abbrev lane-sample-bad : ℕ → Bool
+  lane-sample-bad j = laneBad (laneSampleOf main j)
+
+  both : (anyFrom metered-sample-bad 0 n ≡ false) × (anyFrom lane-sample-bad 0 m ≡ false)
+  unfolding samplesBad
+  both = neither (anyFrom metered-sample-bad 0 n) (anyFrom lane-sample-bad 0 m) e
+
+  passage-good : (i : ℕ) → i < n → getD (lanes .passage) i 0 ≤ 1
+  unfolding meteredBad
+  passage-good i h =
+      ltb-false 1 (getD (lanes .passage) i 0)
+      (neither (ltb 1 (getD (lanes .demand) i 0)) (ltb 1 (getD (lanes .passage) i 0)) (none-of metered-sample-bad 0 n (both .0) i (omega arith) (omega arith)) .1)
+
+  main-good : (j : ℕ) → j < m → SampleGood (laneSampleOf main j)
+  main-good j h = sample-good (laneSampleOf main j) (none-of lane-sample-bad 0 m (both .1) j (omega arith) (omega arith))
+
+  -- Counts in range have room for the tick,
+  module _ (c : Counts) (t : ℕ) (g : CountsGood c n m t) (l : t < 300) where
+    pub room-for-lane : (j : ℕ) → j < 6 → j < m → LaneRoom (laneOf c j) (laneSampleOf main j)
+    room-for-lane j h k = lane-room _ _ t (rw (most-in j m t k) at (g .lanes j h)) (main-good j k) l
+
+    pub room-for-passage : (i : ℕ) → i < 4 → i < n → getD (c .passages) i 0 + getD (lanes .passage) i 0 ≤ 300
+    room-for-passage i h k = omega (arith, g .passages i h, most-in i n t k, passage-good i k)
+
+  -- and are in range after it.
+  module _ (c : Counts) (t : ℕ) (g : CountsGood c n m t) where
+    abbrev c′ : Counts
+    c′ = countedOf c lanes main n m
+
+    lane-is : (j : ℕ) → j < 6 → laneOf c′ j ≡ laneCountedAt c main m j
+    unfolding countedOf
+    lane-is zero h = refl
+    lane-is (suc zero) h = refl
+    lane-is (suc (suc zero)) h = refl
+    lane-is (suc (suc (suc zero))) h = refl
+    lane-is (suc (suc (suc (suc zero)))) h = refl
+    lane-is (suc (suc (suc (suc (suc zero))))) h = refl
+    lane-is (suc (suc (suc (suc (suc (suc j)))))) h = absurd (omega arith)
+
+    passages-are : (i : ℕ) → i < 4 → getD (c′ .passages) i 0 ≡ passagesAt c lanes n i
+    unfolding countedOf
+    passages-are zero h = refl
+    passages-are (suc zero) h = refl
+    passages-are (suc (suc zero)) h = refl
+    passages-are (suc (suc (suc zero))) h = refl
+    passages-are (suc (suc (suc (suc i)))) h = absurd (omega arith)
+
+    lane-then : (j : ℕ) (b : Bool) → ltb j m ≡ b → j < 6 → LaneGood (laneCountedAt c main m j) (mostTicks j m (t + 1))
+    unfolding laneCountedAt
+    lane-then j true e h =
+        let k = ltb-true j m e in
+        rw (e, most-in j m (t + 1) k) (counted-good _ _ t (rw (most-in j m t k) at (g .lanes j h)) (main-good j k))
+    lane-then j false e h =
+        let k = ltb-false j m e in
+        rw (e, most-out j m (t + 1) k) (rw (most-out j m t k) at (g .lanes j h))
+
+    passages-then : (i : ℕ) (b : Bool) → ltb i n ≡ b → i < 4 → passagesAt c lanes n i ≤ mostTicks i n (t + 1)
+    unfolding passagesAt
+    passages-then i true e h =
+        let k = ltb-true i n e in
+        rw e (omega (arith, g .passages i h, most-in i n t k, most-in i n (t + 1) k, passage-good i k))
+    passages-then i false e h =
+        let k = ltb-false i n e in
+        rw e (omega (arith, g .passages i h, most-out i n t k, most-out i n (t + 1) k))
+
+    greens-then : (i : ℕ) (b : Bool) → ltb i n ≡ b → i < 4 → getD (c .greens) i 0 ≤ mostTicks i n (t + 1)
+    greens-then i true e h = let k = ltb-true i n e in omega (arith, g .greens i h, most-in i n t k, most-in i n (t + 1) k)
+    greens-then i false e h = let k = ltb-false i n e in omega (arith, g .greens i h, most-out i n t k, most-out i n (t + 1) k)
+
+    pub counts-after : CountsGood c′ n m (t + 1)
+    unfolding countedOf
+    counts-after = record {
+      passages = λ i h. rw (passages-are i h) (passages-then i _ refl h);
+      greens = λ i h. greens-then i _ refl h;
+      lanes = λ j h. rw (lane-is j h) (lane-then j _ refl h);
+    }
+
+zero-at : (k i : ℕ) → _≡_ {A = ℕ} (getD (replicate k 0) i 0) 0
+zero-at zero i = refl
+zero-at (suc k) zero = refl
+zero-at (suc k) (suc i) = zero-at k i
+
+-- No counts are in range at any number of ticks.
+pub no-counts-good : (n m t : ℕ) → CountsGood noCounts n m t
+no-counts-good n m t = record {
+  passages = λ i h. rw (zero-at 4 i) (omega arith);
+  greens = λ i h. rw (zero-at 4 i) (omega arith);
+  lanes = λ j h. let z = zero-at 6 j in record {
+    worked = rw z (omega arith);
+    vehicles = rw z (omega arith);
+    occupied = rw z (omega arith);
+    timed = rw z (omega arith);
+    speeds = rw z (omega arith);
+  };
+}
+
+-- What it tells of the periods that they are in range.
+pub record PeriodsGood (p : Periods) (n m : ℕ) : Type 0 where
+  pub ticks : p .ticks ≤ 299
+  pub current : CountsGood (p .current) n m (p .ticks)
+  pub last : CountsGood (p .last) n m (lastTicks (p .serial))
+
+pub periods-good : (p : Periods) (n m : ℕ) → periodsSpoilt p n m ≡ false → PeriodsGood p n m
+unfolding periodsSpoilt
+periods-good p n m e =
+    let a = neither (ltb 299 (p .ticks)) _ e in
+    let b = neither (countsSpoilt (p .current) n m (p .ticks)) _ (a .1) in
+    record { ticks = ltb-false 299 (p .ticks) (a .0); current = counts-good (p .current) n m (p .ticks) (b .0); last = counts-good (p .last) n m (lastTicks (p .serial)) (b .1) }
+
+pub good-periods : (p : Periods) (n m : ℕ) → PeriodsGood p n m → periodsSpoilt p n m ≡ false
+unfolding periodsSpoilt
+good-periods p n m g = rw (le-ltb _ _ (g .ticks), good-counts (p .current) n m (p .ticks) (g .current), good-counts (p .last) n m (lastTicks (p .serial)) (g .last))
+
+-- A period that has been completed has a serial, and 300 ticks.
+completed-case : (serial : ℕ) (b : Bool) → eqb serial 4294967295 ≡ b → lastTicks (nextSerial serial) ≡ 300
+unfolding lastTicks nextSerial
+completed-case serial true e = let h = eqb-true serial 4294967295 e in rw (e, ne-eqb serial 0 (λ z. omega arith))
+completed-case serial false e = rw (e, ne-eqb (serial + 1) 0 (λ z. omega arith))
+
+completed : (serial : ℕ) → lastTicks (nextSerial serial) ≡ 300
+completed serial = completed-case serial _ refl
+
+-- A tick keeps the periods in range.
+module _ (p : Periods) (lanes : Metered) (main : Mainline) (n m : ℕ) (g : PeriodsGood p n m) (e : samplesBad lanes main n m ≡ false) where
+  closes : (b : Bool) → ltb (p .ticks) 299 ≡ b → PeriodsGood (afterTick p lanes main n m) n m
+  unfolding afterTick closedOf
+  closes true q =
+      let l = ltb-true (p .ticks) 299 q in
+      rw q (record { ticks = omega arith; current = counts-after lanes main n m e (p .current) (p .ticks) (g .current); last = g .last })
+  closes false q =
+      let l = ltb-false (p .ticks) 299 q in
+      let t : p .ticks + 1 ≡ 300 = omega (arith, g .ticks) in
+      rw q (record { ticks = omega arith; current = no-counts-good n m 0; last = rw (completed (p .serial), ← t) (counts-after lanes main n m e (p .current) (p .ticks) (g .current)) })
+
+  pub periods-after : PeriodsGood (afterTick p lanes main n m) n m
+  periods-after = closes _ refl
