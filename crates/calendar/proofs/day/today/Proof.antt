@@ -1,5 +1,5 @@
-use borrow.Author.Needs.{needs}
 -- The calls are those of the definition.
+use borrow.Author.Needs.{needs}
 use Rattle.calendar.proofs.DateLaws.{bounds}
 use Rattle.calendar.specs.Days.{todayOf}
 use Rattle.calendar.proofs.day.today.Statement.{statement}
