@@ -1,0 +1,110 @@
+-- Bounds of a date's numbers, of the table of days before each month, and of a month's length.
+use Prim.Native.Nat.{ℕ, _+_, _-_, _≤_, _<_}
+use mathlib.Core.Path.{_≡_, refl}
+use mathlib.Core.Bool.{Bool, true, false, cond, _&&_}
+use native.Mathlib.Omega.{arith}
+use borrow.Author.Tests.{leb-true, leb-false}
+use lib.Dec.{leb, ltb}
+use lib.ListN.{getD}
+use Rattle.calendar.specs.declared.day.Date.{Date}
+use Rattle.calendar.specs.Dates.{isWithin, table, isLeap, daysBefore, monthLength, isDate, dayNumber, weekdayOf}
+use Rattle.calendar.specs.Days.{monthBefore}
+use Rattle.calendar.proofs.Below.{and-left, and-right, below}
+
+-- Days before a month of a year that is leap or not.
+abbrev before : Bool → ℕ → ℕ
+before leap month = getD table (month - 1) 0 + cond (leap && ltb 2 month) 1 0
+
+pub table-most : (i : ℕ) → i < 13 → getD table i 0 ≤ 365
+table-most i h = leb-true _ _ (below (λ k. leb (getD table k 0) 365) 13 refl i h)
+
+abbrev small : Bool → ℕ → Bool
+small leap month = leb (before leap month) 366
+
+abbrev step : Bool → ℕ → Bool
+step leap month = leb (before leap month) (before leap (month + 1)) && leb (before leap (month + 1)) (before leap month + 31)
+
+all-small : (leap : Bool) (m : ℕ) → m < 14 → small leap m ≡ true
+all-small true = below (small true) 14 refl
+all-small false = below (small false) 14 refl
+
+all-step : (leap : Bool) (m : ℕ) → m < 13 → step leap m ≡ true
+all-step true = below (step true) 13 refl
+all-step false = below (step false) 13 refl
+
+pub before-most : (y m : ℕ) → m ≤ 13 → daysBefore y m ≤ 366
+unfolding daysBefore
+before-most y m h = leb-true _ _ (all-small (isLeap y) m (omega arith))
+
+module _ (y m : ℕ) (h : m ≤ 12) where
+  pub before-rises : daysBefore y m ≤ daysBefore y (m + 1)
+  unfolding daysBefore
+  before-rises = leb-true _ _ (and-left _ _ (all-step (isLeap y) m (omega arith)))
+
+  before-near : daysBefore y (m + 1) ≤ daysBefore y m + 31
+  unfolding daysBefore
+  before-near = leb-true _ _ (and-right (leb (daysBefore y m) (daysBefore y (m + 1))) _ (all-step (isLeap y) m (omega arith)))
+
+  pub length-most : monthLength y m ≤ 31
+  unfolding monthLength
+  length-most = omega (arith, before-near)
+
+pub within-low : (a x b : ℕ) → isWithin a x b ≡ true → a ≤ x
+unfolding isWithin
+within-low a x b e = leb-true _ _ (and-left _ _ e)
+
+pub within-high : (a x b : ℕ) → isWithin a x b ≡ true → x ≤ b
+unfolding isWithin
+within-high a x b e = leb-true _ _ (and-right (leb a x) _ e)
+
+pub record Bounds (date : Date) : Type 0 where
+  pub year-low : 2000 ≤ date .year
+  pub year-high : date .year ≤ 2099
+  pub month-low : 1 ≤ date .month
+  pub month-high : date .month ≤ 12
+  pub day-low : 1 ≤ date .day
+  pub day-high : date .day ≤ 31
+
+pub bounds : (date : Date) → isDate date ≡ true → Bounds date
+unfolding isDate
+bounds date e =
+    let y = date .year in
+    let m = date .month in
+    let d = date .day in
+    let front = and-left (isWithin 2000 y 2099 && isWithin 1 m 12) _ e in
+    let year = and-left (isWithin 2000 y 2099) _ front in
+    let month = and-right (isWithin 2000 y 2099) _ front in
+    let day = and-right (isWithin 2000 y 2099 && isWithin 1 m 12) _ e in
+    let high = within-high 1 m 12 month in
+    record {
+      year-low = within-low 2000 y 2099 year;
+      year-high = within-high 2000 y 2099 year;
+      month-low = within-low 1 m 12 month;
+      month-high = high;
+      day-low = within-low 1 d (monthLength y m) day;
+      day-high = omega (arith, within-high 1 d (monthLength y m) day, length-most y m high);
+    }
+
+pub number-most : (date : Date) → isDate date ≡ true → dayNumber date < 40000
+unfolding dayNumber
+number-most date e = let b = bounds date e in omega (arith, before-most (date .year) (date .month) (omega arith))
+
+pub weekday-most : (date : Date) → weekdayOf date ≤ 6
+unfolding weekdayOf
+weekday-most date = omega arith
+
+before-low : (m : ℕ) (first : Bool) → leb m 1 ≡ first → 1 ≤ cond first 12 (m - 1)
+before-low m true e = omega arith
+before-low m false e = omega (arith, leb-false m 1 e)
+
+before-high : (m : ℕ) (first : Bool) → m ≤ 12 → cond first 12 (m - 1) ≤ 12
+before-high m true h = omega arith
+before-high m false h = omega arith
+
+pub month-before-low : (m : ℕ) → 1 ≤ monthBefore m
+unfolding monthBefore
+month-before-low m = before-low m (leb m 1) refl
+
+pub month-before-high : (m : ℕ) → m ≤ 12 → monthBefore m ≤ 12
+unfolding monthBefore
+month-before-high m h = before-high m (leb m 1) h

@@ -1,0 +1,4 @@
+pub mod Rules
+pub mod Below
+pub mod DateLaws
+pub mod RowLaws

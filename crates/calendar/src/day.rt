@@ -1,0 +1,149 @@
+// Dates from 2000 to 2099, their weekdays, and their places in the month.
+ghost use mathlib.Core.Path.{_≡_};
+ghost use mathlib.Core.Bool.{true};
+ghost use Prim.Native.Nat.{_≤_};
+ghost use Rattle.calendar.specs.Dates.{isWithin, daysBefore, monthLength, isDate, dayNumber, weekdayOf};
+ghost use Rattle.calendar.specs.Days.{inMonth, monthBefore, todayOf, yesterdayOf};
+
+pub struct Date {
+    pub year: u16,
+    pub month: u16,
+    pub day: u16,
+}
+
+// A day in its month.
+pub struct Day {
+    pub month: u16,
+    pub day: u16,
+    // Sunday 0
+    pub weekday: u16,
+    // 1 for the month's first such weekday, and so on
+    pub week: u16,
+    // whether it is the month's final such weekday
+    pub last: bool,
+}
+
+const FIRST_YEAR: u16 = 2000;
+
+const LAST_YEAR: u16 = 2099;
+
+const DECEMBER: u16 = 12;
+
+const WEEK: u16 = 7;
+
+const YEAR: u16 = 365;
+
+// Every fourth year from 2000 is leap.
+const LEAP_EVERY: u16 = 4;
+
+// 1 January 2000 is a Saturday.
+const FIRST_WEEKDAY: u16 = 6;
+
+// Days of a year that is not leap before each of its months, and before its end.
+const DAYS_BEFORE: [u16; 13] = [0, 31, 59, 90, 120, 151, 181, 212, 243, 273, 304, 334, 365];
+
+fn within(low: u16, x: u16, high: u16) -> bool
+    ensures { λ r. ⌜ r ≡ isWithin low x high ⌝ }
+{
+    if x < low {
+        return false;
+    }
+    x <= high
+}
+
+// Days of the year before this month, the thirteenth being the next January.
+fn days_before(year: u16, month: u16) -> u16
+    requires { ⌜ (1 ≤ month) × (month ≤ 13) ⌝ }
+    ensures { λ r. ⌜ r ≡ daysBefore year month ⌝ }
+{
+    let i = (month - 1) as usize;
+    let days = DAYS_BEFORE[i];
+    if year % LEAP_EVERY != 0 {
+        return days;
+    }
+    if month <= 2 {
+        return days;
+    }
+    days + 1
+}
+
+fn month_length(year: u16, month: u16) -> u16
+    requires { ⌜ (1 ≤ month) × (month ≤ 12) ⌝ }
+    ensures { λ r. ⌜ r ≡ monthLength year month ⌝ }
+{
+    days_before(year, month + 1) - days_before(year, month)
+}
+
+// Whether there is such a date.
+pub fn is_date(date: Date) -> bool
+    ensures { λ r. ⌜ r ≡ isDate date ⌝ }
+{
+    if !within(FIRST_YEAR, date.year, LAST_YEAR) {
+        return false;
+    }
+    if !within(1, date.month, DECEMBER) {
+        return false;
+    }
+    within(1, date.day, month_length(date.year, date.month))
+}
+
+// Days from 1 January 2000.
+fn day_number(date: Date) -> u16
+    requires { ⌜ isDate date ≡ true ⌝ }
+    ensures { λ r. ⌜ r ≡ dayNumber date ⌝ }
+{
+    let years = date.year - FIRST_YEAR;
+    years * YEAR + (years + 3) / LEAP_EVERY + days_before(date.year, date.month) + (date.day - 1)
+}
+
+// Sunday 0 to Saturday 6.
+pub fn weekday(date: Date) -> u16
+    requires { ⌜ isDate date ≡ true ⌝ }
+    ensures { λ r. ⌜ r ≡ weekdayOf date ⌝ }
+{
+    (day_number(date) + FIRST_WEEKDAY) % WEEK
+}
+
+// This day of a month of this length.
+fn in_month(month: u16, day: u16, length: u16, weekday: u16) -> Day
+    requires { ⌜ day ≤ 31 ⌝ }
+    ensures { λ r. ⌜ r ≡ inMonth month day length weekday ⌝ }
+{
+    Day {
+        month,
+        day,
+        weekday,
+        week: (day + 6) / WEEK,
+        last: length < day + WEEK,
+    }
+}
+
+// A date in its month; the weekday is the date's.
+pub fn today(date: Date, weekday: u16) -> Day
+    requires { ⌜ (isDate date ≡ true) × (weekday ≡ weekdayOf date) ⌝ }
+    ensures { λ r. ⌜ r ≡ todayOf date ⌝ }
+{
+    let length = month_length(date.year, date.month);
+    in_month(date.month, date.day, length, weekday)
+}
+
+fn month_before(month: u16) -> u16
+    ensures { λ r. ⌜ r ≡ monthBefore month ⌝ }
+{
+    if month <= 1 { DECEMBER } else { month - 1 }
+}
+
+// The day before a date, in its month; the weekday is the date's.
+pub fn yesterday(date: Date, weekday: u16) -> Day
+    requires { ⌜ (isDate date ≡ true) × (weekday ≡ weekdayOf date) ⌝ }
+    ensures { λ r. ⌜ r ≡ yesterdayOf date ⌝ }
+{
+    let weekday_before = (weekday + 6) % WEEK;
+    if date.day <= 1 {
+        let month = month_before(date.month);
+        let length = month_length(date.year, month);
+        return in_month(month, length, length, weekday_before);
+    }
+    let length = month_length(date.year, date.month);
+    in_month(date.month, date.day - 1, length, weekday_before)
+}
