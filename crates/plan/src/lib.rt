@@ -1,6 +1,7 @@
 // The plan's entries.
 ghost use mathlib.Core.Path.{_≡_};
 ghost use Rattle.plan.specs.Entry.{entryOf, onDay};
+ghost use Rattle.plan.specs.InForce.{isLater, inForceOf};
 
 // One time-of-day entry.
 pub struct Entry {
@@ -38,4 +39,36 @@ pub fn on_day(days: u16, day: u16) -> bool
         return false;
     }
     (days >> day) & 1 == 1
+}
+
+// Whether an entry is of this day type, has started by this minute, and starts no earlier than
+// another.
+fn is_later(e: Entry, day: u16, minute: u16, start: u16) -> bool
+    ensures { λ r. ⌜ r ≡ isLater e day minute start ⌝ }
+{
+    if !on_day(e.days, day) {
+        return false;
+    }
+    if minute < e.start {
+        return false;
+    }
+    start <= e.start
+}
+
+// The place from 1 of the entry in force; 0 for none.
+pub fn in_force(rows: &[u16], count: u16, day: u16, minute: u16) -> u16
+    ensures { λ r. ⌜ r ≡ inForceOf (now (rows .entry)) count day minute ⌝ }
+{
+    let mut best: u16 = 0;
+    let mut start: u16 = 0;
+    let mut i: u16 = 0;
+    while i < count {
+        let e = entry_at(rows, i);
+        if is_later(e, day, minute, start) {
+            best = i + 1;
+            start = e.start;
+        }
+        i += 1;
+    }
+    best
 }

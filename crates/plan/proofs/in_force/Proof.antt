@@ -1,0 +1,88 @@
+-- The loop's invariant: the search that is left, from what was found so far, ends as the whole does.
+use Rattle.plan.proofs.Turns.{takes, skips, ends}
+use Rattle.plan.specs.InForce.{isLater, inForceFrom, inForceOf}
+use Rattle.plan.specs.Entry.{entryOf}
+use Rattle.plan.specs.declared.Entry.{Entry}
+use Prim.Native.Nat.{_≤_, _<_, _-_}
+use mathlib.Core.Logic.{⊎-elim}
+use mathlib.Core.Path.{_≡_, ap, sym, _∙_}
+use native.Mathlib.Omega.{arith}
+use borrow.Author.Needs.{needs}
+use denote.Ref.{now}
+use Rattle.plan.proofs.in_force.Statement.{statement}
+use Rattle.plan.proofs.in_force.Tie as tie
+use Rattle.plan.proofs.in_force.Reads as reads
+use Rattle.plan.proofs.in_force.Lts as lts
+use Rattle.plan.proofs.entry_at.Reads as entry-at-reads
+use Rattle.plan.proofs.is_later.Reads as is-later-reads
+
+abbrev Inv-loop : tie.InvT-loop
+Inv-loop rows count day minute best₀ start₀ i₀ best start i = (i ≤ count) × (inForceFrom rows day minute best start i (count - i) ≡ inForceFrom rows day minute 0 0 0 count)
+
+abbrev μ-loop : tie.MeasureT-loop
+μ-loop rows count day minute best₀ start₀ i₀ best start i = count - i
+
+-- src/lib.rt:65:5
+loop-holds : tie.Need-loop-holds Inv-loop μ-loop
+loop-holds c = let n = c .before .args .count in let e : n - 0 ≡ n = omega arith in (search needs, rw e)
+
+-- src/lib.rt:66:13
+entry-at-requires : tie.Need-entry-at-requires Inv-loop μ-loop
+entry-at-requires c κs = search needs
+
+-- src/lib.rt:67:12
+is-later-requires : tie.Need-is-later-requires Inv-loop μ-loop
+is-later-requires c κs = search needs
+
+-- src/lib.rt:68:20
+add-best : tie.Need-add-best Inv-loop μ-loop
+add-best c = search needs
+
+-- src/lib.rt:71:9
+add-i : tie.Need-add-i Inv-loop μ-loop
+add-i c = search needs
+
+-- src/lib.rt:65:5
+loop-less : tie.Need-loop-less Inv-loop μ-loop
+loop-less c = search needs
+
+-- src/lib.rt:65:5
+loop-again : tie.Need-loop-again Inv-loop μ-loop
+loop-again c =
+    let h = c .before .before .before .before in
+    let a = h .before .before .args in
+    let e = c .before .before .entry-at .ensures in
+    let l : h .loop .i < a .count = search needs in
+    let same : c .before .is-later .result ≡ isLater (entryOf (now (a .rows)) (h .loop .i)) (a .day) (a .minute) (h .loop .start) =
+    c .before .is-later .ensures ∙ ap (λ (x : Entry). isLater x (a .day) (a .minute) (h .loop .start)) e in (
+      search needs,
+      ⊎-elim
+          (λ w. rw (w .1, w .2, ap (λ (x : Entry). x .start) e)
+          (sym (takes (now (a .rows)) (a .day) (a .minute) (h .loop .best) (h .loop .start) (h .loop .i) _ l (sym same ∙ w .0 .taken)) ∙ h .loop .inv .1))
+          (λ w. rw (w .1, w .2)
+          (sym (skips (now (a .rows)) (a .day) (a .minute) (h .loop .best) (h .loop .start) (h .loop .i) _ l (sym same ∙ w .0 .left)) ∙ h .loop .inv .1))
+          (c .if1 .came),
+    )
+
+-- src/lib.rt:59:1
+returns : tie.Need-returns Inv-loop μ-loop
+unfolding inForceOf
+returns c =
+    let h = c .before in
+    let a = h .before .before .args in
+    sym (ends (now (a .rows)) (a .day) (a .minute) (h .loop .best) (h .loop .start) (h .loop .i) _ (c .loop-test .left)) ∙ h .loop .inv .1
+
+pub in-force-spec : {M : Type 1} → statement M
+in-force-spec =
+    tie.close
+    (tie.spec
+    Inv-loop
+    μ-loop
+    loop-holds
+    entry-at-requires
+    is-later-requires
+    add-best
+    add-i
+    loop-less
+    loop-again
+    returns)

@@ -1,0 +1,25 @@
+-- Document 01, 'Day and entry': "The entry in force is, among today's day type with start minute at or before now, the one of the latest
+-- start, and among equal starts the one filed last."
+use Prim.Native.Nat.{ℕ, zero, suc, _+_}
+use mathlib.Core.Bool.{Bool, cond, _&&_}
+use mathlib.Core.List.{List}
+use lib.Dec.{leb}
+use Rattle.plan.specs.declared.Entry.{Entry}
+use Rattle.plan.specs.Entry.{entryOf, onDay}
+
+-- An entry of today's day type that has started, and no earlier than another.
+unfoldable pub isLater : Entry → ℕ → ℕ → ℕ → Bool
+isLater e day minute start = onDay (e .days) day && (leb (e .start) minute && leb start (e .start))
+
+-- The next n entries from entry i on, tried in the order they were filed. best is the place from 1 of the one in force among those before,
+-- 0 for none, and start its start.
+abbrev pub inForceFrom : List ℕ → ℕ → ℕ → ℕ → ℕ → ℕ → ℕ → ℕ
+inForceFrom rows day minute best start i zero = best
+inForceFrom rows day minute best start i (suc n) =
+    cond (isLater (entryOf rows i) day minute start)
+    (inForceFrom rows day minute (i + 1) (entryOf rows i .start) (i + 1) n)
+    (inForceFrom rows day minute best start (i + 1) n)
+
+-- The place from 1 of the entry in force, of a plan of count entries; 0 for none.
+unfoldable pub inForceOf : List ℕ → ℕ → ℕ → ℕ → ℕ
+inForceOf rows count day minute = inForceFrom rows day minute 0 0 0 count
