@@ -11,10 +11,6 @@ use borrow.Author.Needs.{needs}
 use denote.Ref.{now}
 use Rattle.plan.proofs.in_force.Statement.{statement}
 use Rattle.plan.proofs.in_force.Tie as tie
-use Rattle.plan.proofs.in_force.Reads as reads
-use Rattle.plan.proofs.in_force.Lts as lts
-use Rattle.plan.proofs.entry_at.Reads as entry-at-reads
-use Rattle.plan.proofs.is_later.Reads as is-later-reads
 
 abbrev Inv-loop : tie.InvT-loop
 Inv-loop rows count day minute best₀ start₀ i₀ best start i = (i ≤ count) × (inForceFrom rows day minute best start i (count - i) ≡ inForceFrom rows day minute 0 0 0 count)
@@ -22,31 +18,24 @@ Inv-loop rows count day minute best₀ start₀ i₀ best start i = (i ≤ count
 abbrev μ-loop : tie.MeasureT-loop
 μ-loop rows count day minute best₀ start₀ i₀ best start i = count - i
 
--- src/lib.rt:65:5
 loop-holds : tie.Need-loop-holds Inv-loop μ-loop
 loop-holds c = let n = c .before .args .count in let e : n - 0 ≡ n = omega arith in (search needs, rw e)
 
--- src/lib.rt:66:13
 entry-at-requires : tie.Need-entry-at-requires Inv-loop μ-loop
 entry-at-requires c κs = search needs
 
--- src/lib.rt:67:12
 is-later-requires : tie.Need-is-later-requires Inv-loop μ-loop
 is-later-requires c κs = search needs
 
--- src/lib.rt:68:20
 add-best : tie.Need-add-best Inv-loop μ-loop
 add-best c = search needs
 
--- src/lib.rt:71:9
 add-i : tie.Need-add-i Inv-loop μ-loop
 add-i c = search needs
 
--- src/lib.rt:65:5
 loop-less : tie.Need-loop-less Inv-loop μ-loop
 loop-less c = search needs
 
--- src/lib.rt:65:5
 loop-again : tie.Need-loop-again Inv-loop μ-loop
 loop-again c =
     let h = c .before .before .before .before in
@@ -64,7 +53,6 @@ loop-again c =
           (c .if1 .came),
     )
 
--- src/lib.rt:59:1
 returns : tie.Need-returns Inv-loop μ-loop
 unfolding inForceOf
 returns c =
