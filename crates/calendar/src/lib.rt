@@ -1,9 +1,13 @@
 // The day type of a date: its weekday, or Holiday.
+mod clock;
 mod day;
 
 use day::Day;
 ghost use mathlib.Core.Path.{_≡_};
 ghost use Rattle.calendar.specs.Holidays.{rowOf, isFixed, isFloating, isNamed, isHoliday, dayTypeOf};
+pub use clock::BAD_CLOCK;
+pub use clock::Clock;
+pub use clock::clock_bad;
 pub use day::Date;
 pub use day::is_date;
 

@@ -1,0 +1,33 @@
+use borrow.Author.Needs.{needs}
+use Rattle.wanted.proofs.cycle_ticks.Statement.{statement}
+use Rattle.wanted.proofs.cycle_ticks.Tie as tie
+use Rattle.wanted.proofs.cycle_ticks.Reads as reads
+use Rattle.wanted.proofs.cycle_ticks.Lts as lts
+
+-- src/lib.rt:36:9
+returns : tie.Need-returns
+returns c = ?
+
+-- src/lib.rt:39:6
+mul-result : tie.Need-mul-result
+mul-result c = search needs
+
+-- src/lib.rt:39:35
+sub-result : tie.Need-sub-result
+sub-result c = search needs
+
+-- src/lib.rt:39:6
+add-result : tie.Need-add-result
+add-result c = search needs
+
+-- src/lib.rt:39:5
+div-result : tie.Need-div-result
+div-result c = search needs
+
+-- src/lib.rt:32:1
+returns-2 : tie.Need-returns-2
+returns-2 c = ?
+
+pub cycle-ticks-spec : {M : Type 1} → statement M
+cycle-ticks-spec =
+    tie.close (tie.spec returns mul-result sub-result add-result div-result returns-2)

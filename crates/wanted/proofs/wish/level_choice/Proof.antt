@@ -1,0 +1,25 @@
+use borrow.Author.Needs.{needs}
+use Rattle.wanted.proofs.wish.level_choice.Statement.{statement}
+use Rattle.wanted.proofs.wish.level_choice.Tie as tie
+use Rattle.wanted.proofs.wish.level_choice.Reads as reads
+use Rattle.wanted.proofs.wish.level_choice.Lts as lts
+use Rattle.levels.proofs.level_at.Reads as level-at-reads
+
+-- src/wish.rt:79:9
+returns : tie.Need-returns
+returns c = ?
+
+-- src/wish.rt:84:36
+sub-level-at : tie.Need-sub-level-at
+sub-level-at c = search needs
+
+-- src/wish.rt:84:9
+level-at-requires : tie.Need-level-at-requires
+level-at-requires c κs = search needs
+
+-- src/wish.rt:75:1
+returns-2 : tie.Need-returns-2
+returns-2 c = ?
+
+pub level-choice-spec : {M : Type 1} → statement M
+level-choice-spec = tie.close (tie.spec returns sub-level-at level-at-requires returns-2)

@@ -1,0 +1,33 @@
+use borrow.Author.Needs.{needs}
+use Rattle.wanted.proofs.wish.measured_choice.Statement.{statement}
+use Rattle.wanted.proofs.wish.measured_choice.Tie as tie
+use Rattle.wanted.proofs.wish.measured_choice.Reads as reads
+use Rattle.wanted.proofs.wish.measured_choice.Lts as lts
+use Rattle.levels.proofs.deciding.Reads as deciding-reads
+use Rattle.levels.proofs.measured.Reads as measured-reads
+use Rattle.wanted.proofs.wish.level_choice.Reads as level-choice-reads
+
+-- src/wish.rt:96:9
+returns : tie.Need-returns
+returns c = ?
+
+-- src/wish.rt:103:48
+measured-requires : tie.Need-measured-requires
+measured-requires c κs = search needs
+
+-- src/wish.rt:103:9
+deciding-requires : tie.Need-deciding-requires
+deciding-requires c κs = search needs
+
+-- src/wish.rt:101:5
+level-choice-requires : tie.Need-level-choice-requires
+level-choice-requires c κs = search needs
+
+-- src/wish.rt:91:1
+returns-2 : tie.Need-returns-2
+returns-2 c = ?
+
+pub measured-choice-spec : {M : Type 1} → statement M
+measured-choice-spec =
+    tie.close
+    (tie.spec returns measured-requires deciding-requires level-choice-requires returns-2)

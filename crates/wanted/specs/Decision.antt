@@ -1,0 +1,58 @@
+-- Document 01, 'Day and entry', 'What is wanted': what a clock, two commands and the periods decide at a site.
+use Prim.Native.Nat.{ℕ, _/_}
+use mathlib.Core.Bool.{Bool, cond}
+use lib.Dec.{eqb}
+use lib.ListN.{getD}
+use Rattle.site.specs.declared.Site.{Site}
+use Rattle.site.specs.Record.{spoiltSite}
+use Rattle.calendar.specs.declared.clock.Clock.{Clock}
+use Rattle.calendar.specs.Holidays.{dayTypeOf}
+use Rattle.calendar.specs.Clock.{clockBad}
+use Rattle.plan.specs.InForce.{inForceOf}
+use Rattle.inputs.specs.declared.Command.{Command}
+use Rattle.inputs.specs.Commands.{commandsBad}
+use Rattle.period.specs.declared.Periods.{Periods}
+use Rattle.period.specs.Range.{periodsSpoilt}
+use Rattle.wanted.specs.declared.wish.Choice.{Choice}
+use Rattle.wanted.specs.declared.wish.Wish.the-variants.{Dark}
+use Rattle.wanted.specs.declared.wish.Source.the-variants.{Plan}
+use Rattle.wanted.specs.declared.Decision.{Decision}
+use Rattle.wanted.specs.declared.Decided.{Decided}
+use Rattle.wanted.specs.Wish.{plannedOf, rulingOf, sourceOf, choiceOf}
+
+-- Lanes n and mainline lanes m of a site.
+abbrev pub lanesOf : Site → ℕ
+lanesOf x = getD (x .timings) 0 0
+
+abbrev pub mainlineOf : Site → ℕ
+mainlineOf x = getD (x .timings) 14 0
+
+unfoldable pub dayOf : Site → Clock → ℕ
+dayOf x clock = dayTypeOf (clock .date) (x .dates) (x .holidays)
+
+-- An entry is in force from its minute's first tenth; a minute has 600 tenths.
+unfoldable pub entryInForce : Site → Clock → ℕ
+entryInForce x clock = inForceOf (x .plan) (x .entries) (dayOf x clock) (clock .tenth / 600)
+
+unfoldable pub commandInForce : Site → Clock → Command → Command → Command
+commandInForce x clock manual centre = rulingOf manual centre (plannedOf (x .plan) (entryInForce x clock))
+
+unfoldable pub decisionOf : Site → Clock → Command → Command → Periods → Decision
+decisionOf x clock manual centre p =
+    let c : Choice = choiceOf (commandInForce x clock manual centre) (x .tables) (x .levels) (mainlineOf x) p in
+    record { day = dayOf x clock; entry = entryInForce x clock; source = sourceOf manual centre; level = c .level; wish = c .wish }
+
+-- Site, periods, clock and commands are checked in the order of a tick: 14, 13, 8, 10.
+unfoldable pub refusalOf : Site → Clock → Command → Command → Periods → ℕ
+refusalOf x clock manual centre p =
+    cond (spoiltSite x) 14
+    (cond (periodsSpoilt p (lanesOf x) (mainlineOf x)) 13 (cond (clockBad clock) 8 (cond (commandsBad manual centre) 10 0)))
+
+abbrev pub noDecision : Decision
+noDecision = record { day = 0; entry = 0; source = Plan; level = 0; wish = Dark }
+
+unfoldable pub decidedOf : Site → Clock → Command → Command → Periods → Decided
+decidedOf x clock manual centre p = record {
+  refusal = refusalOf x clock manual centre p;
+  decision = cond (eqb (refusalOf x clock manual centre p) 0) (decisionOf x clock manual centre p) noDecision;
+}

@@ -1,0 +1,141 @@
+// What is wanted at a clock, under two commands, after the periods so far.
+mod wish;
+
+ghost use mathlib.Core.Path.{_≡_};
+ghost use Prim.Native.Nat.{_≤_};
+ghost use Rattle.wanted.specs.Cycle.{cycleTicks};
+ghost use Rattle.wanted.specs.Wish.{rateOf};
+ghost use Rattle.wanted.specs.Decision.{dayOf, entryInForce, decisionOf, refusalOf, noDecision, decidedOf};
+use calendar::Clock;
+use inputs::Command;
+use period::Periods;
+use site::Site;
+pub use wish::Source;
+pub use wish::Wish;
+
+// The day type, 0 Sunday to 6 Saturday and 7 Holiday; the places from 1 in the file of the entry in
+// force and of the level that decided, 0 for none; who rules, and the wish.
+pub struct Decision {
+    pub day: u16,
+    pub entry: u16,
+    pub source: Source,
+    pub level: u16,
+    pub wish: Wish,
+}
+
+pub struct Decided {
+    pub refusal: u8,
+    pub decision: Decision,
+}
+
+// The cycle in ticks of a metering rate, with so many vehicles per green; 0 for a rate of 0.
+pub fn cycle_ticks(vehicles: u16, rate: u16) -> u32
+    ensures { λ r. ⌜ r ≡ cycleTicks vehicles rate ⌝ }
+{
+    if rate == 0 {
+        return 0;
+    }
+    let rate = rate as u32;
+    (36000 * (vehicles as u32) + (rate - 1)) / rate
+}
+
+// The rate of a wish; 0 for none.
+pub fn rate_of(wish: Wish) -> u16
+    ensures { λ r. ⌜ r ≡ rateOf wish ⌝ }
+{
+    match wish {
+        Wish::Dark => 0,
+        Wish::Green => 0,
+        Wish::Metering(rate) => rate,
+        Wish::Clear => 0,
+    }
+}
+
+fn day_of(site: Site, clock: Clock) -> u16
+    ensures { λ r. ⌜ r ≡ dayOf site clock ⌝ }
+{
+    let dates = site.dates;
+    let date = clock.date;
+    calendar::day_type(date, &dates, site.holidays)
+}
+
+fn entry_in_force(site: Site, clock: Clock, day: u16) -> u16
+    requires { ⌜ (day ≡ dayOf site clock) × (clock .tenth ≤ 863999) ⌝ }
+    ensures { λ r. ⌜ r ≡ entryInForce site clock ⌝ }
+{
+    let plan = site.plan;
+    plan::in_force(&plan, site.entries, day, (clock.tenth / 600) as u16)
+}
+
+// What is decided at an accepted clock under accepted commands.
+pub fn wanted_now(
+    site: Site,
+    clock: Clock,
+    manual: Command,
+    centre: Command,
+    p: Periods,
+) -> Decision
+    requires { ⌜ clock .tenth ≤ 863999 ⌝ }
+    ensures { λ r. ⌜ r ≡ decisionOf site clock manual centre p ⌝ }
+{
+    let day = day_of(site, clock);
+    let entry = entry_in_force(site, clock, day);
+    let plan = site.plan;
+    let command = wish::ruling(manual, centre, wish::planned(&plan, entry));
+    let tables = site.tables;
+    let choice = wish::chosen(command, &tables, site.levels, site.timings[14], p);
+    Decision {
+        day,
+        entry,
+        source: wish::source_of(manual, centre),
+        level: choice.level,
+        wish: choice.wish,
+    }
+}
+
+fn refusal_of(site: Site, clock: Clock, manual: Command, centre: Command, p: Periods) -> u8
+    ensures { λ r. ⌜ r ≡ refusalOf site clock manual centre p ⌝ }
+{
+    if site::spoilt(site) {
+        return site::SPOILT_SITE;
+    }
+    if period::periods_spoilt(p, site.timings[0], site.timings[14]) {
+        return period::SPOILT_STATE;
+    }
+    if calendar::clock_bad(clock) {
+        return calendar::BAD_CLOCK;
+    }
+    if inputs::commands_bad(manual, centre) {
+        return inputs::BAD_COMMAND;
+    }
+    0
+}
+
+fn no_decision() -> Decision
+    ensures { λ r. ⌜ r ≡ noDecision ⌝ }
+{
+    Decision {
+        day: 0,
+        entry: 0,
+        source: Source::Plan,
+        level: 0,
+        wish: Wish::Dark,
+    }
+}
+
+// What is decided, or why it is not: the decision is then that of no entry, dark.
+pub fn decide(site: Site, clock: Clock, manual: Command, centre: Command, p: Periods) -> Decided
+    ensures { λ r. ⌜ r ≡ decidedOf site clock manual centre p ⌝ }
+{
+    let refusal = refusal_of(site, clock, manual, centre, p);
+    if refusal != 0 {
+        return Decided {
+            refusal,
+            decision: no_decision(),
+        };
+    }
+    Decided {
+        refusal: 0,
+        decision: wanted_now(site, clock, manual, centre, p),
+    }
+}

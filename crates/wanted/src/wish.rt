@@ -1,0 +1,143 @@
+// What a command wishes, and which command rules.
+ghost use mathlib.Core.Path.{_≡_};
+ghost use Rattle.levels.specs.Room.{Small};
+ghost use Rattle.wanted.specs.Wish.{plannedOf, rulingOf, sourceOf, levelChoice, measuredChoice, responsiveChoice, choiceOf};
+use inputs::Command;
+use levels::Totals;
+use period::Periods;
+
+// What is wanted of the group.
+pub enum Wish {
+    Dark,
+    Green,
+    // at a rate in vehicles an hour per lane
+    Metering(u16),
+    Clear,
+}
+
+// Who wishes it: the technician, the control centre, or the plan, also where no entry is in force.
+pub enum Source {
+    Manual,
+    Centre,
+    Plan,
+}
+
+// A wish, and the place from 1 of the level that decided it, or 0.
+pub struct Choice {
+    pub level: u16,
+    pub wish: Wish,
+}
+
+// The entry in force as a command; dark with none.
+pub fn planned(rows: &[u16], place: u16) -> Command
+    ensures { λ r. ⌜ r ≡ plannedOf (now (rows .entry)) place ⌝ }
+{
+    if place == 0 {
+        return Command {
+            kind: 1,
+            rate: 0,
+            table: 0,
+        };
+    }
+    let e = plan::entry_at(rows, place - 1);
+    Command {
+        kind: e.mode + 1,
+        rate: e.rate,
+        table: e.table,
+    }
+}
+
+// The command that rules: manual, else communications, else the plan's.
+pub fn ruling(manual: Command, centre: Command, planned: Command) -> Command
+    ensures { λ r. ⌜ r ≡ rulingOf manual centre planned ⌝ }
+{
+    if manual.kind != 0 {
+        return manual;
+    }
+    if centre.kind != 0 {
+        return centre;
+    }
+    planned
+}
+
+pub fn source_of(manual: Command, centre: Command) -> Source
+    ensures { λ r. ⌜ r ≡ sourceOf manual centre ⌝ }
+{
+    if manual.kind != 0 {
+        return Source::Manual;
+    }
+    if centre.kind != 0 {
+        return Source::Centre;
+    }
+    Source::Plan
+}
+
+fn level_choice(rows: &[u16], place: u16) -> Choice
+    ensures { λ r. ⌜ r ≡ levelChoice (now (rows .entry)) place ⌝ }
+{
+    if place == 0 {
+        return Choice {
+            level: 0,
+            wish: Wish::Clear,
+        };
+    }
+    let l = levels::level_at(rows, place - 1);
+    Choice {
+        level: place,
+        wish: Wish::Metering(l.rate),
+    }
+}
+
+fn measured_choice(c: Command, rows: &[u16], count: u16, t: Totals) -> Choice
+    requires { ⌜ Small t 1000000000000 ⌝ }
+    ensures { λ r. ⌜ r ≡ measuredChoice c (now (rows .entry)) count t ⌝ }
+{
+    if t.lanes == 0 {
+        return Choice {
+            level: 0,
+            wish: Wish::Metering(c.rate),
+        };
+    }
+    level_choice(
+        rows,
+        levels::deciding(rows, count, c.table, levels::measured(t)),
+    )
+}
+
+fn responsive_choice(c: Command, rows: &[u16], count: u16, m: u16, p: Periods) -> Choice
+    ensures { λ r. ⌜ r ≡ responsiveChoice c (now (rows .entry)) count m p ⌝ }
+{
+    if p.serial == 0 {
+        return Choice {
+            level: 0,
+            wish: Wish::Clear,
+        };
+    }
+    let last = p.last;
+    measured_choice(c, rows, count, levels::lane_totals(last, m))
+}
+
+// What a command wishes at a site with these levels and m mainline lanes.
+pub fn chosen(c: Command, rows: &[u16], count: u16, m: u16, p: Periods) -> Choice
+    ensures { λ r. ⌜ r ≡ choiceOf c (now (rows .entry)) count m p ⌝ }
+{
+    if c.kind == 2 {
+        return Choice {
+            level: 0,
+            wish: Wish::Green,
+        };
+    }
+    if c.kind == 3 {
+        return Choice {
+            level: 0,
+            wish: Wish::Metering(c.rate),
+        };
+    }
+    if c.kind == 4 {
+        return responsive_choice(c, rows, count, m, p);
+    }
+    Choice {
+        level: 0,
+        wish: Wish::Dark,
+    }
+}
