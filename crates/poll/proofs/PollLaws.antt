@@ -1,0 +1,63 @@
+-- How long the record is, what its four parts leave that are stored one behind the other, and what it tells that no check refuses.
+use Prim.Native.Nat.{ℕ, _+_, _*_, _/_, _%_, _≤_}
+use mathlib.Core.Path.{_≡_, refl, ap, sym, _∙_}
+use mathlib.Core.Bool.{Bool, true, false}
+use mathlib.Core.List.{List, [], _∷_, _++_}
+use native.Mathlib.Omega.{arith}
+use native.Mathlib.Nat.{zero-add}
+use lib.ListN.{length, drop, length-append}
+use lib.Seq.{sets, sets-eq}
+use Rattle.numbers.specs.Words.{bytes}
+use Rattle.numbers.proofs.StoreLaws.{length-bytes, bytes-append}
+use Rattle.output.proofs.SetsLaws.{sets-append}
+use Rattle.site.specs.declared.Site.{Site}
+use Rattle.site.specs.Record.{spoiltSite}
+use Rattle.period.specs.declared.Periods.{Periods}
+use Rattle.poll.specs.Poll.{meteredRow, mainlineRow, rowsFrom, pollWords, refusalOf}
+use Rattle.poll.proofs.RowLaws.{length-rows}
+
+module _ (p : Periods) (n m : ℕ) where
+  abbrev head : List ℕ
+  head = (p .serial / 65536) ∷ (p .serial % 65536) ∷ n ∷ []
+
+  abbrev metered : List ℕ
+  metered = rowsFrom (meteredRow (p .last)) 0 n
+
+  abbrev mainline : List ℕ
+  mainline = rowsFrom (mainlineRow (p .last)) 0 m
+
+  length-metered : length (bytes metered) ≡ n * 4
+  length-metered = let h = length-rows (meteredRow (p .last)) 2 (λ i. refl) 0 n in length-bytes metered ∙ omega arith
+
+  length-mainline : length (bytes mainline) ≡ m * 6
+  length-mainline = let h = length-rows (mainlineRow (p .last)) 3 (λ i. refl) 0 m in length-bytes mainline ∙ omega arith
+
+  is-parts : bytes (pollWords p n m) ≡ bytes head ++ (bytes metered ++ (bytes (m ∷ []) ++ bytes mainline))
+  unfolding pollWords
+  is-parts = rw (bytes-append metered)
+
+  pub length-poll : length (bytes (pollWords p n m)) ≡ 8 + n * 4 + m * 6
+  length-poll = let a = length-metered in let b = length-mainline in ap length is-parts ∙ simp length-append (omega arith)
+
+  -- The four parts, each stored where the one before it ended.
+  pub parts-stored : (o : List ℕ) (a b : ℕ) → a ≡ 6 + n * 4 → b ≡ a + 2
+      → sets (sets (sets (sets o 0 (bytes head)) 6 (bytes metered)) a (bytes (m ∷ []))) b (bytes mainline)
+      ≡ sets o 0 (bytes (pollWords p n m))
+  parts-stored o a b ea eb =
+      sets-append (sets (sets o 0 (bytes head)) 6 (bytes metered)) a b (bytes (m ∷ [])) (bytes mainline) eb
+      ∙ sets-append (sets o 0 (bytes head)) 6 a (bytes metered) (bytes (m ∷ []) ++ bytes mainline) (omega (arith, length-metered))
+      ∙ sets-append o 0 6 (bytes head) (bytes metered ++ (bytes (m ∷ []) ++ bytes mainline)) refl
+      ∙ ap (sets o 0) (sym is-parts)
+
+-- What is stored from the front on stands over the front.
+pub over-front : (text d : List ℕ) → length text ≤ length d → sets d 0 text ≡ text ++ drop (length text) d
+over-front text d h = sets-eq text d 0 (omega arith) ∙ rw zero-add
+
+-- A poll that no check refuses has a site that is not spoilt.
+site-case : (x : Site) (p : Periods) (a : Bool) → spoiltSite x ≡ a → refusalOf x p ≡ 0 → spoiltSite x ≡ false
+unfolding refusalOf
+site-case x p true e h = let y = rw e at h in absurd (omega arith)
+site-case x p false e h = e
+
+pub site-sound : (x : Site) (p : Periods) → refusalOf x p ≡ 0 → spoiltSite x ≡ false
+site-sound x p h = site-case x p _ refl h

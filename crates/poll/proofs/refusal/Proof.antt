@@ -1,0 +1,56 @@
+-- The checks in their order, each by the call or the test that makes it.
+use borrow.Author.Tests.{eq-eqb, ne-eqb}
+use Rattle.poll.specs.Poll.{refusalOf}
+use borrow.Author.Needs.{needs}
+use Rattle.poll.proofs.refusal.Statement.{statement}
+use Rattle.poll.proofs.refusal.Tie as tie
+
+spoilt-requires : tie.Need-spoilt-requires
+spoilt-requires c κs = search needs
+
+returns : tie.Need-returns
+unfolding refusalOf
+returns c = rw (← c .before .spoilt .ensures, c .if1 .taken)
+
+element-copy-out-periods-spoilt : tie.Need-element-copy-out-periods-spoilt
+element-copy-out-periods-spoilt c = search needs
+
+element-copy-out-periods-spoilt-2 : tie.Need-element-copy-out-periods-spoilt-2
+element-copy-out-periods-spoilt-2 c = search needs
+
+periods-spoilt-requires : tie.Need-periods-spoilt-requires
+periods-spoilt-requires c κs = search needs
+
+returns-2 : tie.Need-returns-2
+unfolding refusalOf
+returns-2 c =
+    let p = c .before in
+    let s = p .before .before .before in
+    rw (← s .before .spoilt .ensures, s .if1 .left, ← p .periods-spoilt .ensures, c .if2 .taken)
+
+returns-3 : tie.Need-returns-3
+unfolding refusalOf
+returns-3 c =
+    let p = c .before .before .before in
+    let s = p .before .before .before in
+    rw (← s .before .spoilt .ensures, s .if1 .left, ← p .periods-spoilt .ensures, c .before .before .if2 .left, eq-eqb _ _ (c .if3 .taken))
+
+returns-4 : tie.Need-returns-4
+unfolding refusalOf
+returns-4 c =
+    let p = c .before .before .before in
+    let s = p .before .before .before in
+    rw (← s .before .spoilt .ensures, s .if1 .left, ← p .periods-spoilt .ensures, c .before .before .if2 .left, ne-eqb _ _ (c .if3 .left))
+
+pub refusal-spec : {M : Type 1} → statement M
+refusal-spec =
+    tie.close
+    (tie.spec
+    spoilt-requires
+    returns
+    element-copy-out-periods-spoilt
+    element-copy-out-periods-spoilt-2
+    periods-spoilt-requires
+    returns-2
+    returns-3
+    returns-4)
