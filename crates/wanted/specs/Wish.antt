@@ -2,7 +2,7 @@
 use Prim.Native.Nat.{ℕ, _+_, _-_}
 use mathlib.Core.Bool.{cond}
 use mathlib.Core.List.{List}
-use lib.Dec.{eqb}
+use lib.Dec.{ltb, eqb}
 use Rattle.inputs.specs.declared.Command.{Command}
 use Rattle.plan.specs.Entry.{entryOf}
 use Rattle.period.specs.declared.Periods.{Periods}
@@ -22,11 +22,15 @@ rateOf Green = 0
 rateOf (Metering rate) = rate
 rateOf Clear = 0
 
--- The entry in force as a command: modes 0 to 3 are kinds 1 to 4. "With none, dark." The place counts from 1.
+-- An entry's mode as a command's kind: modes 0 to 3 are kinds 1 to 4.
+unfoldable pub kindOf : ℕ → ℕ
+kindOf mode = cond (ltb mode 3) (mode + 1) 4
+
+-- The entry in force as a command. "With none, dark." The place counts from 1.
 unfoldable pub plannedOf : List ℕ → ℕ → Command
 plannedOf rows place =
     cond (eqb place 0) (record { kind = 1; rate = 0; table = 0 })
-    (record { kind = entryOf rows (place - 1) .mode + 1; rate = entryOf rows (place - 1) .rate; table = entryOf rows (place - 1) .table })
+    (record { kind = kindOf (entryOf rows (place - 1) .mode); rate = entryOf rows (place - 1) .rate; table = entryOf rows (place - 1) .table })
 
 -- "A manual command of kind 1-4 rules; else communications; else the entry."
 unfoldable pub rulingOf : Command → Command → Command → Command

@@ -84,12 +84,14 @@ pub fn wanted_now(
     let command = wish::ruling(manual, centre, wish::planned(&plan, entry));
     let tables = site.tables;
     let choice = wish::chosen(command, &tables, site.levels, site.timings[14], p);
+    let source = wish::source_of(manual, centre);
+    let wish = choice.wish;
     Decision {
         day,
         entry,
-        source: wish::source_of(manual, centre),
+        source,
         level: choice.level,
-        wish: choice.wish,
+        wish,
     }
 }
 

@@ -1,7 +1,7 @@
 // What a command wishes, and which command rules.
 ghost use mathlib.Core.Path.{_≡_};
 ghost use Rattle.levels.specs.Room.{Small};
-ghost use Rattle.wanted.specs.Wish.{plannedOf, rulingOf, sourceOf, levelChoice, measuredChoice, responsiveChoice, choiceOf};
+ghost use Rattle.wanted.specs.Wish.{kindOf, plannedOf, rulingOf, sourceOf, levelChoice, measuredChoice, responsiveChoice, choiceOf};
 use inputs::Command;
 use levels::Totals;
 use period::Periods;
@@ -28,6 +28,13 @@ pub struct Choice {
     pub wish: Wish,
 }
 
+// An entry's mode as a command's kind.
+fn kind_of(mode: u16) -> u16
+    ensures { λ r. ⌜ r ≡ kindOf mode ⌝ }
+{
+    if mode < 3 { mode + 1 } else { 4 }
+}
+
 // The entry in force as a command; dark with none.
 pub fn planned(rows: &[u16], place: u16) -> Command
     ensures { λ r. ⌜ r ≡ plannedOf (now (rows .entry)) place ⌝ }
@@ -41,7 +48,7 @@ pub fn planned(rows: &[u16], place: u16) -> Command
     }
     let e = plan::entry_at(rows, place - 1);
     Command {
-        kind: e.mode + 1,
+        kind: kind_of(e.mode),
         rate: e.rate,
         table: e.table,
     }

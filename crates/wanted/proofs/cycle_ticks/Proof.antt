@@ -1,3 +1,6 @@
+-- The code's test is the definition's.
+use Rattle.wanted.specs.Cycle.{cycleTicks}
+use borrow.Author.Tests.{lt-ltb, le-ltb, eq-eqb, ne-eqb}
 use borrow.Author.Needs.{needs}
 use Rattle.wanted.proofs.cycle_ticks.Statement.{statement}
 use Rattle.wanted.proofs.cycle_ticks.Tie as tie
@@ -6,7 +9,8 @@ use Rattle.wanted.proofs.cycle_ticks.Lts as lts
 
 -- src/lib.rt:36:9
 returns : tie.Need-returns
-returns c = ?
+unfolding cycleTicks
+returns c = rw (eq-eqb _ _ (c .if1 .taken))
 
 -- src/lib.rt:39:6
 mul-result : tie.Need-mul-result
@@ -26,7 +30,8 @@ div-result c = search needs
 
 -- src/lib.rt:32:1
 returns-2 : tie.Need-returns-2
-returns-2 c = ?
+unfolding cycleTicks
+returns-2 c = rw (ne-eqb _ _ (c .if1 .left))
 
 pub cycle-ticks-spec : {M : Type 1} → statement M
 cycle-ticks-spec =

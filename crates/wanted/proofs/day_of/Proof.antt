@@ -1,3 +1,5 @@
+-- The calendar's day type, of the site's holidays.
+use Rattle.wanted.specs.Decision.{dayOf}
 use borrow.Author.Needs.{needs}
 use Rattle.wanted.proofs.day_of.Statement.{statement}
 use Rattle.wanted.proofs.day_of.Tie as tie
@@ -15,7 +17,8 @@ day-type-requires c κs = search needs
 
 -- src/lib.rt:54:1
 returns : tie.Need-returns
-returns c = ?
+unfolding dayOf
+returns c = c .day-type .ensures
 
 pub day-of-spec : {M : Type 1} → statement M
 day-of-spec = tie.close (tie.spec slice-aggregate-day-type day-type-requires returns)

@@ -1,3 +1,6 @@
+-- The plan's entry in force at the clock's minute.
+use Rattle.wanted.specs.Decision.{dayOf, entryInForce}
+use mathlib.Core.Path.{_≡_, _∙_}
 use borrow.Author.Needs.{needs}
 use Rattle.wanted.proofs.entry_in_force.Statement.{statement}
 use Rattle.wanted.proofs.entry_in_force.Tie as tie
@@ -19,7 +22,8 @@ in-force-requires c κs = search needs
 
 -- src/lib.rt:62:1
 returns : tie.Need-returns
-returns c = ?
+unfolding entryInForce
+returns c = rw (← c .before .before .before .before .pre .0) (c .in-force .ensures)
 
 pub entry-in-force-spec : {M : Type 1} → statement M
 entry-in-force-spec =

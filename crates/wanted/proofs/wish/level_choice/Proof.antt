@@ -1,3 +1,6 @@
+-- The code's test is the definition's.
+use Rattle.wanted.specs.Wish.{levelChoice}
+use borrow.Author.Tests.{lt-ltb, le-ltb, eq-eqb, ne-eqb}
 use borrow.Author.Needs.{needs}
 use Rattle.wanted.proofs.wish.level_choice.Statement.{statement}
 use Rattle.wanted.proofs.wish.level_choice.Tie as tie
@@ -7,7 +10,8 @@ use Rattle.levels.proofs.level_at.Reads as level-at-reads
 
 -- src/wish.rt:79:9
 returns : tie.Need-returns
-returns c = ?
+unfolding levelChoice
+returns c = rw (eq-eqb _ _ (c .if1 .taken))
 
 -- src/wish.rt:84:36
 sub-level-at : tie.Need-sub-level-at
@@ -19,7 +23,8 @@ level-at-requires c κs = search needs
 
 -- src/wish.rt:75:1
 returns-2 : tie.Need-returns-2
-returns-2 c = ?
+unfolding levelChoice
+returns-2 c = rw (ne-eqb _ _ (c .before .if1 .left), c .level-at .ensures)
 
 pub level-choice-spec : {M : Type 1} → statement M
 level-choice-spec = tie.close (tie.spec returns sub-level-at level-at-requires returns-2)

@@ -1,3 +1,6 @@
+-- The code's test is the definition's.
+use Rattle.wanted.specs.Wish.{measuredChoice}
+use borrow.Author.Tests.{lt-ltb, le-ltb, eq-eqb, ne-eqb}
 use borrow.Author.Needs.{needs}
 use Rattle.wanted.proofs.wish.measured_choice.Statement.{statement}
 use Rattle.wanted.proofs.wish.measured_choice.Tie as tie
@@ -9,7 +12,8 @@ use Rattle.wanted.proofs.wish.level_choice.Reads as level-choice-reads
 
 -- src/wish.rt:96:9
 returns : tie.Need-returns
-returns c = ?
+unfolding measuredChoice
+returns c = rw (eq-eqb _ _ (c .if1 .taken))
 
 -- src/wish.rt:103:48
 measured-requires : tie.Need-measured-requires
@@ -25,7 +29,8 @@ level-choice-requires c κs = search needs
 
 -- src/wish.rt:91:1
 returns-2 : tie.Need-returns-2
-returns-2 c = ?
+unfolding measuredChoice
+returns-2 c = rw (ne-eqb _ _ (c .before .before .before .if1 .left), ← c .before .before .measured .ensures, ← c .before .deciding .ensures) (c .level-choice .ensures)
 
 pub measured-choice-spec : {M : Type 1} → statement M
 measured-choice-spec =

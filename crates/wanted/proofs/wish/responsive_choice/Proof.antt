@@ -1,3 +1,6 @@
+-- The code's test is the definition's.
+use Rattle.wanted.specs.Wish.{responsiveChoice}
+use borrow.Author.Tests.{lt-ltb, le-ltb, eq-eqb, ne-eqb}
 use borrow.Author.Needs.{needs}
 use Rattle.wanted.proofs.wish.responsive_choice.Statement.{statement}
 use Rattle.wanted.proofs.wish.responsive_choice.Tie as tie
@@ -8,7 +11,8 @@ use Rattle.wanted.proofs.wish.measured_choice.Reads as measured-choice-
 
 -- src/wish.rt:111:9
 returns : tie.Need-returns
-returns c = ?
+unfolding responsiveChoice
+returns c = rw (eq-eqb _ _ (c .if1 .taken))
 
 -- src/wish.rt:117:37
 lane-totals-requires : tie.Need-lane-totals-requires
@@ -20,7 +24,8 @@ measured-choice-requires c κs = search needs
 
 -- src/wish.rt:107:1
 returns-2 : tie.Need-returns-2
-returns-2 c = ?
+unfolding responsiveChoice
+returns-2 c = rw (ne-eqb _ _ (c .before .before .before .if1 .left), ← c .before .lane-totals .ensures .0) (c .measured-choice .ensures)
 
 pub responsive-choice-spec : {M : Type 1} → statement M
 responsive-choice-spec =

@@ -1,3 +1,6 @@
+-- The code's tests are the definition's, the other way round.
+use Rattle.wanted.specs.Wish.{rulingOf}
+use borrow.Author.Tests.{lt-ltb, le-ltb, eq-eqb, ne-eqb}
 use Rattle.wanted.proofs.wish.ruling.Statement.{statement}
 use Rattle.wanted.proofs.wish.ruling.Tie as tie
 use Rattle.wanted.proofs.wish.ruling.Reads as reads
@@ -5,15 +8,18 @@ use Rattle.wanted.proofs.wish.ruling.Lts as lts
 
 -- src/wish.rt:55:9
 returns : tie.Need-returns
-returns c = ?
+unfolding rulingOf
+returns c = rw (ne-eqb _ _ (c .if1 .taken))
 
 -- src/wish.rt:58:9
 returns-2 : tie.Need-returns-2
-returns-2 c = ?
+unfolding rulingOf
+returns-2 c = rw (eq-eqb _ _ (c .before .before .if1 .left), ne-eqb _ _ (c .if2 .taken))
 
 -- src/wish.rt:51:1
 returns-3 : tie.Need-returns-3
-returns-3 c = ?
+unfolding rulingOf
+returns-3 c = rw (eq-eqb _ _ (c .before .before .if1 .left), eq-eqb _ _ (c .if2 .left))
 
 pub ruling-spec : {M : Type 1} → statement M
 ruling-spec = tie.close (tie.spec returns returns-2 returns-3)
