@@ -1,4 +1,3 @@
-pub mod Rules
 pub mod Below
 pub mod DateLaws
 pub mod RowLaws

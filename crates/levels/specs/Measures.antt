@@ -2,10 +2,10 @@
 -- occupancy = occupied ms ÷ (30 × lanes); mean speed = sum of speeds ÷ vehicles that had one."
 use Prim.Native.Nat.{ℕ, zero, suc, _+_, _*_, _/_}
 use mathlib.Core.Bool.{cond, _&&_}
-use lib.Dec.{ltb, eqb}
+use lib.Dec.{ltb}
 use Rattle.period.specs.declared.Counts.{Counts}
 use Rattle.period.specs.declared.LaneCounts.{LaneCounts}
-use Rattle.period.specs.Counts.{laneOf}
+use Rattle.period.specs.Counts.{laneOf, goodOf}
 use Rattle.levels.specs.declared.measure.Totals.{Totals}
 use Rattle.levels.specs.declared.measure.Measures.{Measures}
 
@@ -15,7 +15,7 @@ noTotals = record { lanes = 0; vehicles = 0; occupied = 0; timed = 0; speeds = 0
 -- The totals with lane j of m, if it is good.
 unfoldable pub withLane : Totals → LaneCounts → ℕ → ℕ → Totals
 withLane t c m j =
-    cond (ltb j m && eqb (c .worked) 300)
+    cond (ltb j m && goodOf c)
     (record { lanes = t .lanes + 1; vehicles = t .vehicles + c .vehicles; occupied = t .occupied + c .occupied; timed = t .timed + c .timed; speeds = t .speeds + c .speeds })
     t
 

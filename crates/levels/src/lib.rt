@@ -22,8 +22,6 @@ pub struct Level {
     pub rate: u16,
 }
 
-const UNUSED: u16 = 65535;
-
 // Level i of a site's rows, the first being 0; all 0 where there is none.
 pub fn level_at(rows: &[u16], i: u16) -> Level
     ensures { λ r. ⌜ r ≡ levelOf (now (rows .entry)) i ⌝ }
@@ -42,7 +40,7 @@ pub fn level_at(rows: &[u16], i: u16) -> Level
 fn reaches(threshold: u16, measure: u64) -> bool
     ensures { λ r. ⌜ r ≡ reachesOf threshold measure ⌝ }
 {
-    if threshold == UNUSED {
+    if threshold == ranges::UNUSED {
         return false;
     }
     threshold as u64 <= measure
@@ -52,7 +50,7 @@ fn reaches(threshold: u16, measure: u64) -> bool
 fn is_slow(threshold: u16, known: bool, speed: u64) -> bool
     ensures { λ r. ⌜ r ≡ isSlow threshold known speed ⌝ }
 {
-    if threshold == UNUSED {
+    if threshold == ranges::UNUSED {
         return false;
     }
     if !known {

@@ -25,8 +25,6 @@ pub struct Measures {
     pub speed: u64,
 }
 
-const TICKS_OF_A_PERIOD: u16 = 300;
-
 // The totals with lane j of m, if it is good.
 fn with_lane(t: Totals, c: LaneCounts, m: u16, j: u16) -> Totals
     requires { ⌜ Small t 1000000000000 ⌝ }
@@ -36,7 +34,7 @@ fn with_lane(t: Totals, c: LaneCounts, m: u16, j: u16) -> Totals
     if m <= j {
         return t;
     }
-    if c.worked != TICKS_OF_A_PERIOD {
+    if c.worked != period::TICKS_OF_A_PERIOD {
         return t;
     }
     Totals {

@@ -1,1 +1,2 @@
 pub mod AnyLaws
+pub mod Rules

@@ -1,5 +1,7 @@
 -- Document 01, 'What is wanted' and 'A state is spoilt if': what is kept of a period. Lanes are counted from 0.
 use Prim.Native.Nat.{ℕ}
+use mathlib.Core.Bool.{Bool}
+use lib.Dec.{eqb}
 use lib.ListN.{getD, replicate}
 use Rattle.period.specs.declared.Counts.{Counts}
 use Rattle.period.specs.declared.LaneCounts.{LaneCounts}
@@ -24,3 +26,7 @@ noCounts = record {
   timed = replicate 6 0;
   speeds = replicate 6 0;
 }
+
+-- "A lane is good if it worked at all 300" ticks of the period.
+unfoldable pub goodOf : LaneCounts → Bool
+goodOf c = eqb (c .worked) 300

@@ -14,8 +14,6 @@ use inputs::LaneSample;
 use inputs::Mainline;
 use inputs::Metered;
 
-const TICKS_OF_A_PERIOD: u16 = 300;
-
 const LAST_SERIAL: u32 = 4294967295;
 
 // One mainline lane's counts with a tick's samples.
@@ -149,7 +147,7 @@ fn closed(p: Periods, c: Counts) -> Periods
     ensures { λ r. ⌜ r ≡ closedOf p c ⌝ }
 {
     let last = p.last;
-    if p.ticks < TICKS_OF_A_PERIOD - 1 {
+    if p.ticks < crate::TICKS_OF_A_PERIOD - 1 {
         return Periods {
             ticks: p.ticks + 1,
             current: c,

@@ -38,6 +38,9 @@ pub struct LaneCounts {
     pub speeds: u32,
 }
 
+// How many accepted ticks a period has.
+pub const TICKS_OF_A_PERIOD: u16 = 300;
+
 // No period has been completed.
 pub const NO_PERIOD: u8 = 12;
 

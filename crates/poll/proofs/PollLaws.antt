@@ -4,9 +4,8 @@ use mathlib.Core.Path.{_≡_, refl, ap, sym, _∙_}
 use mathlib.Core.Bool.{Bool, true, false}
 use mathlib.Core.List.{List, [], _∷_, _++_}
 use native.Mathlib.Omega.{arith}
-use native.Mathlib.Nat.{zero-add}
-use lib.ListN.{length, drop, length-append}
-use lib.Seq.{sets, sets-eq}
+use lib.ListN.{length, length-append}
+use lib.Seq.{sets}
 use Rattle.numbers.specs.Words.{bytes}
 use Rattle.numbers.proofs.StoreLaws.{length-bytes, bytes-append}
 use Rattle.output.proofs.SetsLaws.{sets-append}
@@ -48,10 +47,6 @@ module _ (p : Periods) (n m : ℕ) where
       ∙ sets-append (sets o 0 (bytes head)) 6 a (bytes metered) (bytes (m ∷ []) ++ bytes mainline) (omega (arith, length-metered))
       ∙ sets-append o 0 6 (bytes head) (bytes metered ++ (bytes (m ∷ []) ++ bytes mainline)) refl
       ∙ ap (sets o 0) (sym is-parts)
-
--- What is stored from the front on stands over the front.
-pub over-front : (text d : List ℕ) → length text ≤ length d → sets d 0 text ≡ text ++ drop (length text) d
-over-front text d h = sets-eq text d 0 (omega arith) ∙ rw zero-add
 
 -- A poll that no check refuses has a site that is not spoilt.
 site-case : (x : Site) (p : Periods) (a : Bool) → spoiltSite x ≡ a → refusalOf x p ≡ 0 → spoiltSite x ≡ false

@@ -8,23 +8,12 @@ use lib.Dec.{eqb}
 use lib.ListN.{getD}
 use Rattle.numbers.specs.Words.{bytes}
 use Rattle.site.specs.declared.Site.{Site}
-use Rattle.site.specs.Record.{spoiltSite}
+use Rattle.site.specs.Record.{meteredLanes, mainlineLanes, spoiltSite}
 use Rattle.period.specs.declared.Counts.{Counts}
 use Rattle.period.specs.declared.LaneCounts.{LaneCounts}
 use Rattle.period.specs.declared.Periods.{Periods}
-use Rattle.period.specs.Counts.{laneOf}
+use Rattle.period.specs.Counts.{laneOf, goodOf}
 use Rattle.period.specs.Range.{periodsSpoilt}
-
--- The site's n metered and m mainline lanes.
-abbrev pub meteredLanes : Site → ℕ
-meteredLanes x = getD (x .timings) 0 0
-
-abbrev pub mainlineLanes : Site → ℕ
-mainlineLanes x = getD (x .timings) 14 0
-
--- "A lane is good if it worked at all 300" ticks of the period.
-unfoldable pub goodOf : LaneCounts → Bool
-goodOf lane = eqb (lane .worked) 300
 
 -- A metered lane's numbers, and a mainline lane's.
 abbrev pub meteredRow : Counts → ℕ → List ℕ

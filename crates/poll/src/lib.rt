@@ -7,20 +7,19 @@ ghost use lib.ListN.{length, drop};
 ghost use lib.Seq.{sets};
 ghost use Rattle.numbers.specs.Words.{bytes};
 ghost use Rattle.output.specs.Output.{answerOf, bufferOf};
-ghost use Rattle.poll.specs.Poll.{goodOf, meteredRow, mainlineRow, rowsFrom, pollWords, pollOf, refusalOf};
+ghost use Rattle.period.specs.Counts.{goodOf};
+ghost use Rattle.poll.specs.Poll.{meteredRow, mainlineRow, rowsFrom, pollWords, pollOf, refusalOf};
 use output::Written;
 use period::Counts;
 use period::LaneCounts;
 use period::Periods;
 use site::Site;
 
-const TICKS_OF_A_PERIOD: u16 = 300;
-
 // 1 for a good lane, else 0.
 fn good_number(lane: LaneCounts) -> u16
     ensures { λ r. ⌜ r ≡ cond (goodOf lane) 1 0 ⌝ }
 {
-    if lane.worked == TICKS_OF_A_PERIOD {
+    if lane.worked == period::TICKS_OF_A_PERIOD {
         return 1;
     }
     0

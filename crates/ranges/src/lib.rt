@@ -7,6 +7,7 @@ ghost use mathlib.Core.Path.{_≡_};
 ghost use Prim.Native.Nat.{_<_};
 ghost use lib.ListN.{length};
 ghost use Rattle.ranges.specs.Sections.{allowedOf, sizeOf, badNumberOf, rangeOf, mayBeUnused, isGood, firstBad, zeros};
+pub use range::UNUSED;
 pub use range::rate_range;
 pub use range::table_range;
 pub use range::within;

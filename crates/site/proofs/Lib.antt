@@ -5,3 +5,4 @@ pub mod ReadLaws
 pub mod RoundTrip
 pub mod WriteLaws
 pub mod Longest
+pub mod TimingLaws

@@ -1,10 +1,11 @@
 -- `spoiltOf` and `spoiltSite` from the facts that the code finds, and what it tells of a record that it is not spoilt.
 use Prim.Native.Nat.{ℕ, _≤_, _<_}
-use mathlib.Core.Path.{_≡_, refl}
-use mathlib.Core.Bool.{Bool, true, false, not, _||_, true≢false}
+use mathlib.Core.Path.{_≡_}
+use mathlib.Core.Bool.{true, false, not}
 use mathlib.Core.List.{List}
 use borrow.Author.Tests.{lt-ltb, le-ltb, ltb-false, not-false}
 use lib.ListN.{length, take, drop}
+use Rattle.loops.proofs.AnyLaws.{neither}
 use Rattle.ranges.specs.declared.Section.{Section}
 use Rattle.ranges.specs.declared.Section.the-variants.{Timings, Entries, Holidays, Levels}
 use Rattle.ranges.specs.Sections.{allowedOf, sizeOf, firstBad, zeros}
@@ -24,10 +25,6 @@ module _ (k : Section) (n : ℕ) (v : List ℕ) where
     pub spoilt-rest : w ≤ b → not (zeros (drop w v)) ≡ spoiltOf k n v
     unfolding spoiltOf
     spoilt-rest l = rw (t, ← ew, ← eb, le-ltb _ _ l)
-
-neither : (a b : Bool) → (a || b) ≡ false → (a ≡ false) × (b ≡ false)
-neither true b e = absurd (true≢false e)
-neither false b e = (refl, e)
 
 -- What a section that is not spoilt tells.
 pub record Sound (k : Section) (n : ℕ) (v : List ℕ) : Type 0 where

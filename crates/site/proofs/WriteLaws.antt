@@ -4,12 +4,11 @@ use mathlib.Core.Path.{_≡_, ap, sym, _∙_}
 use mathlib.Core.Bool.{false}
 use mathlib.Core.List.{List, _++_}
 use native.Mathlib.Omega.{arith}
-use native.Mathlib.Nat.{zero-add}
 use lib.ListN.{length, drop, length-append}
-use lib.Seq.{sets, sets-eq, length-take-le}
+use lib.Seq.{sets, length-take-le}
 use Rattle.numbers.specs.Words.{bytes}
 use Rattle.numbers.proofs.StoreLaws.{length-bytes, bytes-append}
-use Rattle.output.proofs.SetsLaws.{sets-append}
+use Rattle.output.proofs.SetsLaws.{sets-append, over-front}
 use Rattle.ranges.specs.declared.Section.{Section}
 use Rattle.ranges.specs.declared.Section.the-variants.{Timings, Entries, Holidays, Levels}
 use Rattle.ranges.specs.Sections.{sizeOf, mostOf}
@@ -73,5 +72,4 @@ module _ (x : Site) where
         (rw (part-length Entries (x .entries) (x .plan) (s .plan) (sized .plan)) (sym eb))
         (rw (part-length Holidays (x .holidays) (x .dates) (s .dates) (sized .dates)) (sym ec))
         ∙ ap (sets o 0) (sym is-four)
-        ∙ sets-eq (bytesOf x) o 0 (omega arith)
-        ∙ rw zero-add
+        ∙ over-front (bytesOf x) o l

@@ -4,12 +4,11 @@ use mathlib.Core.Path.{_≡_, refl, ap, sym, _∙_}
 use mathlib.Core.Bool.{Bool, true, false}
 use mathlib.Core.List.{List, [], _∷_, _++_}
 use native.Mathlib.Omega.{arith}
-use native.Mathlib.Nat.{zero-add}
 use borrow.Author.Tests.{leb-true, leb-false}
 use lib.Dec.{leb}
 use lib.ListN.{length, drop, length-append}
-use lib.Seq.{sets, set-out, length-sets, sets-eq}
-use Rattle.output.proofs.SetsLaws.{sets-append}
+use lib.Seq.{sets, set-out, length-sets}
+use Rattle.output.proofs.SetsLaws.{sets-append, over-front}
 use Rattle.text.specs.Put.{farthest, Put}
 
 pub sets-out : (d : List ℕ) (p : ℕ) (text : List ℕ) → length d ≤ p → sets d p text ≡ d
@@ -53,4 +52,4 @@ put-within f = omega (arith, f .next)
 -- A text that fits, put at the front, stands there whole, and the rest is as it was.
 pub put-front : {d d′ text : List ℕ} {r : ℕ} → length d < farthest → length text ≤ length d → Put d 0 text r d′
     → (r ≡ length text) × (d′ ≡ text ++ drop (length text) d)
-put-front {d} {d′} {text} {r} l h f = (omega (arith, f .next), f .bytes ∙ sets-eq text d 0 (omega arith) ∙ rw zero-add)
+put-front {d} {d′} {text} {r} l h f = (omega (arith, f .next), f .bytes ∙ over-front text d h)

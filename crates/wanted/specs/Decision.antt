@@ -2,9 +2,8 @@
 use Prim.Native.Nat.{ℕ, _/_}
 use mathlib.Core.Bool.{Bool, cond}
 use lib.Dec.{eqb}
-use lib.ListN.{getD}
 use Rattle.site.specs.declared.Site.{Site}
-use Rattle.site.specs.Record.{spoiltSite}
+use Rattle.site.specs.Record.{meteredLanes, mainlineLanes, spoiltSite}
 use Rattle.calendar.specs.declared.clock.Clock.{Clock}
 use Rattle.calendar.specs.Holidays.{dayTypeOf}
 use Rattle.calendar.specs.Clock.{clockBad}
@@ -20,13 +19,6 @@ use Rattle.wanted.specs.declared.Decision.{Decision}
 use Rattle.wanted.specs.declared.Decided.{Decided}
 use Rattle.wanted.specs.Wish.{plannedOf, rulingOf, sourceOf, choiceOf}
 
--- Lanes n and mainline lanes m of a site.
-abbrev pub lanesOf : Site → ℕ
-lanesOf x = getD (x .timings) 0 0
-
-abbrev pub mainlineOf : Site → ℕ
-mainlineOf x = getD (x .timings) 14 0
-
 unfoldable pub dayOf : Site → Clock → ℕ
 dayOf x clock = dayTypeOf (clock .date) (x .dates) (x .holidays)
 
@@ -39,14 +31,14 @@ commandInForce x clock manual centre = rulingOf manual centre (plannedOf (x .pla
 
 unfoldable pub decisionOf : Site → Clock → Command → Command → Periods → Decision
 decisionOf x clock manual centre p =
-    let c : Choice = choiceOf (commandInForce x clock manual centre) (x .tables) (x .levels) (mainlineOf x) p in
+    let c : Choice = choiceOf (commandInForce x clock manual centre) (x .tables) (x .levels) (mainlineLanes x) p in
     record { day = dayOf x clock; entry = entryInForce x clock; source = sourceOf manual centre; level = c .level; wish = c .wish }
 
 -- Site, periods, clock and commands are checked in the order of a tick: 14, 13, 8, 10.
 unfoldable pub refusalOf : Site → Clock → Command → Command → Periods → ℕ
 refusalOf x clock manual centre p =
     cond (spoiltSite x) 14
-    (cond (periodsSpoilt p (lanesOf x) (mainlineOf x)) 13 (cond (clockBad clock) 8 (cond (commandsBad manual centre) 10 0)))
+    (cond (periodsSpoilt p (meteredLanes x) (mainlineLanes x)) 13 (cond (clockBad clock) 8 (cond (commandsBad manual centre) 10 0)))
 
 abbrev pub noDecision : Decision
 noDecision = record { day = 0; entry = 0; source = Plan; level = 0; wish = Dark }

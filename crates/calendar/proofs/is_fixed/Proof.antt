@@ -1,5 +1,5 @@
 -- The code's tests are the definition's.
-use Rattle.calendar.proofs.Rules.{tests}
+use Rattle.loops.proofs.Rules.{tests}
 use Rattle.calendar.specs.Holidays.{isFixed}
 use Rattle.calendar.proofs.is_fixed.Statement.{statement}
 use Rattle.calendar.proofs.is_fixed.Tie as tie

@@ -1,5 +1,5 @@
 -- The code's tests are the definition's.
-use Rattle.calendar.proofs.Rules.{tests}
+use Rattle.loops.proofs.Rules.{tests}
 use Rattle.calendar.specs.Holidays.{isFloating}
 use Rattle.calendar.proofs.is_floating.Statement.{statement}
 use Rattle.calendar.proofs.is_floating.Tie as tie

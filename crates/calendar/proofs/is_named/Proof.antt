@@ -1,5 +1,5 @@
 -- The row's kind decides, as in the definition.
-use Rattle.calendar.proofs.Rules.{tests}
+use Rattle.loops.proofs.Rules.{tests}
 use Rattle.calendar.specs.Holidays.{isNamed}
 use borrow.Author.Needs.{needs}
 use Rattle.calendar.proofs.is_named.Statement.{statement}

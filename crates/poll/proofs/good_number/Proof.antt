@@ -1,6 +1,6 @@
 -- The code's test is the definition's.
-use Rattle.inputs.proofs.Rules.{tests}
-use Rattle.poll.specs.Poll.{goodOf}
+use Rattle.loops.proofs.Rules.{tests}
+use Rattle.period.specs.Counts.{goodOf}
 use Rattle.poll.proofs.good_number.Statement.{statement}
 use Rattle.poll.proofs.good_number.Tie as tie
 

@@ -7,9 +7,11 @@ use lib.ListN.{length}
 use Rattle.output.specs.Output.{acceptedWrite}
 use Rattle.output.proofs.OutputLaws.{earlier-refused, too-small, accepted}
 use Rattle.site.proofs.Sizes.{Sized}
-use Rattle.poll.specs.Poll.{meteredLanes, mainlineLanes, pollOf, refusalOf}
-use Rattle.poll.proofs.PollLaws.{length-poll, over-front, site-sound}
-use Rattle.poll.proofs.TimingLaws.{most-metered}
+use Rattle.poll.specs.Poll.{pollOf, refusalOf}
+use Rattle.site.specs.Record.{meteredLanes, mainlineLanes}
+use Rattle.poll.proofs.PollLaws.{length-poll, site-sound}
+use Rattle.output.proofs.SetsLaws.{over-front}
+use Rattle.site.proofs.TimingLaws.{most-metered}
 use borrow.Author.Needs.{needs}
 use Rattle.poll.proofs.poll.Statement.{statement}
 use Rattle.poll.proofs.poll.Tie as tie

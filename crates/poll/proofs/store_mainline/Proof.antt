@@ -11,7 +11,8 @@ use Prim.Native.Nat.{ℕ, _≤_, _+_, _-_, _*_}
 use lib.ListN.{length}
 use lib.Seq.{sets}
 use Rattle.numbers.specs.Words.{bytes}
-use Rattle.poll.specs.Poll.{mainlineRow, rowsFrom, goodOf}
+use Rattle.poll.specs.Poll.{mainlineRow, rowsFrom}
+use Rattle.period.specs.Counts.{goodOf}
 use Rattle.poll.proofs.RowLaws.{rows-turn}
 use Rattle.poll.proofs.store_mainline.Statement.{statement}
 use Rattle.poll.proofs.store_mainline.Tie as tie

@@ -1,5 +1,5 @@
 -- The code's test is the definition's.
-use Rattle.calendar.proofs.Rules.{tests}
+use Rattle.loops.proofs.Rules.{tests}
 use Rattle.calendar.specs.Days.{monthBefore}
 use borrow.Author.Needs.{needs}
 use Rattle.calendar.proofs.day.month_before.Statement.{statement}

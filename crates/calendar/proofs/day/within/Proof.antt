@@ -1,5 +1,5 @@
 -- The code's two tests are the definition's.
-use Rattle.calendar.proofs.Rules.{tests}
+use Rattle.loops.proofs.Rules.{tests}
 use Rattle.calendar.specs.Dates.{isWithin}
 use Rattle.calendar.proofs.day.within.Statement.{statement}
 use Rattle.calendar.proofs.day.within.Tie as tie

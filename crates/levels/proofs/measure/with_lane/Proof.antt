@@ -1,6 +1,7 @@
 use Prim.Native.Nat.{_≤_}
 -- The code's tests are the definition's; a lane's counts fit their types.
 use Rattle.levels.specs.Measures.{withLane}
+use Rattle.period.specs.Counts.{goodOf}
 use borrow.Author.Tests.{lt-ltb, le-ltb, eq-eqb, ne-eqb}
 use native.Mathlib.Omega.{arith}
 use borrow.Author.Needs.{needs}
@@ -11,11 +12,11 @@ speeds-fit : (s : tie.Start) → s .args .c .speeds ≤ 4294967295
 speeds-fit s = search needs
 
 returns : tie.Need-returns
-unfolding withLane
+unfolding withLane goodOf
 returns c = (rw (le-ltb _ _ (c .if1 .taken)), record { lanes = omega arith; vehicles = omega arith; occupied = omega arith; timed = omega arith; speeds = omega arith })
 
 returns-2 : tie.Need-returns-2
-unfolding withLane
+unfolding withLane goodOf
 returns-2 c = (rw (lt-ltb _ _ (c .before .before .if1 .left), ne-eqb _ _ (c .if2 .taken)), record { lanes = omega arith; vehicles = omega arith; occupied = omega arith; timed = omega arith; speeds = omega arith })
 
 add-t6 : tie.Need-add-t6
@@ -46,7 +47,7 @@ add-t14 : tie.Need-add-t14
 add-t14 c = search needs
 
 returns-3 : tie.Need-returns-3
-unfolding withLane
+unfolding withLane goodOf
 returns-3 c =
     let q = c .before .before .before .before .before .before .before .before .before in
     let p = q .before .before in

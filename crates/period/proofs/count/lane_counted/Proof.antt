@@ -1,6 +1,6 @@
 -- The code's tests are the definition's.
 use Rattle.period.specs.Counting.{laneCounted}
-use Rattle.period.proofs.Rules.{tests}
+use Rattle.loops.proofs.Rules.{tests}
 use borrow.Author.Needs.{needs}
 use Rattle.period.proofs.count.lane_counted.Statement.{statement}
 use Rattle.period.proofs.count.lane_counted.Tie as tie

@@ -1,6 +1,6 @@
 -- The code's tests are the definition's.
 use Rattle.period.specs.Range.{mostTicks}
-use Rattle.period.proofs.Rules.{tests}
+use Rattle.loops.proofs.Rules.{tests}
 use Rattle.period.proofs.range.most_ticks.Statement.{statement}
 use Rattle.period.proofs.range.most_ticks.Tie as tie
 

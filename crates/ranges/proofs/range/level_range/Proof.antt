@@ -2,7 +2,7 @@
 use lib.ListN.{List·getD-eq-default}
 use mathlib.Core.Path.{sym}
 use Rattle.ranges.specs.Ranges.{levelRange, between, levelRanges}
-use Rattle.ranges.proofs.Rules.{tests}
+use Rattle.loops.proofs.Rules.{tests}
 use borrow.Author.Needs.{needs}
 use Rattle.ranges.proofs.range.level_range.Statement.{statement}
 use Rattle.ranges.proofs.range.level_range.Tie as tie

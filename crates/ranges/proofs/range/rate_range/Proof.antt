@@ -1,6 +1,6 @@
 -- The code's test is the definition's.
 use Rattle.ranges.specs.Ranges.{rateRange}
-use Rattle.ranges.proofs.Rules.{tests}
+use Rattle.loops.proofs.Rules.{tests}
 use Rattle.ranges.proofs.range.rate_range.Statement.{statement}
 use Rattle.ranges.proofs.range.rate_range.Tie as tie
 

@@ -3,7 +3,7 @@ use lib.ListN.{List·getD-eq-default}
 use borrow.Author.Tests.{ne-eqb}
 use mathlib.Core.Path.{sym}
 use Rattle.ranges.specs.Ranges.{timingRange, between, timingRanges}
-use Rattle.ranges.proofs.Rules.{tests}
+use Rattle.loops.proofs.Rules.{tests}
 use borrow.Author.Needs.{needs}
 use Rattle.ranges.proofs.range.timing_range.Statement.{statement}
 use Rattle.ranges.proofs.range.timing_range.Tie as tie

@@ -1,6 +1,6 @@
 -- The code's two tests are the definition's.
 use Rattle.ranges.specs.Ranges.{isWithin}
-use Rattle.ranges.proofs.Rules.{tests}
+use Rattle.loops.proofs.Rules.{tests}
 use Rattle.ranges.proofs.range.within.Statement.{statement}
 use Rattle.ranges.proofs.range.within.Tie as tie
 

@@ -49,3 +49,7 @@ module _ (x : Site) (sized : Sized x) (ok : spoiltSite x ≡ false) where
   pub most-metered : getD (x .timings) 0 0 ≤ 4
   unfolding timingRange
   most-metered = high-case (timingRange (getD (x .timings) 3 0) 0) (getD (x .timings) 0 0) _ refl (timing-within 0 (omega arith))
+
+  pub most-mainline : getD (x .timings) 14 0 ≤ 6
+  unfolding timingRange
+  most-mainline = high-case (timingRange (getD (x .timings) 3 0) 14) (getD (x .timings) 14 0) _ refl (timing-within 14 (omega arith))
