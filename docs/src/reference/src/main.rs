@@ -1,12 +1,19 @@
 //! Document 01 in plain Rust. `reference NAME` writes test inputs and what they should give:
 //!
 //! - `site-bounds stdin`, `site-bounds stdout`: the files of `crates/site_bounds`.
+//! - `wanted-cases stdin`, `wanted-cases stdout`: the files of `crates/wanted_cases`.
 //! - `timetable FILE`: what the timetable program prints of a file.
 //! - `site-files FOLDER`: the site files that the timetable's test programs read.
 
+mod calendar;
+mod cases;
 mod files;
+mod periods;
+mod poll;
+mod random;
 mod site;
 mod timetable;
+mod wanted;
 
 use std::io::{Result, Write};
 
@@ -26,6 +33,14 @@ fn site_bounds_answers() -> String {
     files::bound_files().iter().map(answer).collect()
 }
 
+fn wanted_cases() -> Vec<Vec<u8>> {
+    cases::cases().iter().map(cases::payload).collect()
+}
+
+fn wanted_answers() -> String {
+    cases::cases().iter().map(cases::line).collect()
+}
+
 fn main() -> Result<()> {
     let words: Vec<String> = std::env::args().skip(1).collect();
     let words: Vec<&str> = words.iter().map(String::as_str).collect();
@@ -33,6 +48,8 @@ fn main() -> Result<()> {
     match words[..] {
         ["site-bounds", "stdin"] => out.write_all(&framed(&files::bound_files())),
         ["site-bounds", "stdout"] => out.write_all(site_bounds_answers().as_bytes()),
+        ["wanted-cases", "stdin"] => out.write_all(&framed(&wanted_cases())),
+        ["wanted-cases", "stdout"] => out.write_all(wanted_answers().as_bytes()),
         ["timetable", file] => out.write_all(timetable::print(&std::fs::read(file)?).as_bytes()),
         ["site-files", folder] => {
             let mut paper = files::site_a();

@@ -1,0 +1,466 @@
+//! Random cases of what is wanted and of the poll record, and the line that each should give.
+
+use crate::calendar::{self, day_before, month_length, such_days, weekday, Clock, Date};
+use crate::periods::{Counts, Periods};
+use crate::poll::poll;
+use crate::random::Random;
+use crate::site::{self, bytes, Site, TIMINGS, UNUSED};
+use crate::wanted::{self, cycle, decide, measures, Command, Measures, Wish};
+
+const CASES: usize = 5000;
+const SEED: u64 = 1;
+const POLL_BUFFER: usize = 64;
+const DAYS: [&str; 8] = ["Sun", "Mon", "Tue", "Wed", "Thu", "Fri", "Sat", "Hol"];
+
+pub struct Case {
+    file: Vec<u8>,
+    clock: Clock,
+    commands: [Command; 2],
+    periods: Periods,
+}
+
+// The payload: two-byte numbers.
+
+fn halves(n: u32) -> [u16; 2] {
+    [(n >> 16) as u16, n as u16]
+}
+
+fn counts_numbers(c: &Counts) -> Vec<u16> {
+    let mut out = [&c.passages[..], &c.greens, &c.worked, &c.vehicles, &c.occupied, &c.timed].concat();
+    out.extend(c.speeds.iter().flat_map(|s| halves(*s)));
+    out
+}
+
+pub fn payload(case: &Case) -> Vec<u8> {
+    let Clock { date, tenth } = case.clock;
+    let mut numbers = vec![date.year, date.month, date.day];
+    numbers.extend(halves(tenth));
+    numbers.extend(case.commands.iter().flat_map(|c| [c.kind, c.rate, c.table]));
+    numbers.push(case.periods.ticks);
+    numbers.extend(counts_numbers(&case.periods.current));
+    numbers.extend(halves(case.periods.serial));
+    numbers.extend(counts_numbers(&case.periods.last));
+    let mut out = (case.file.len() as u16).to_be_bytes().to_vec();
+    out.extend(&case.file);
+    out.extend(numbers.iter().flat_map(|n| n.to_be_bytes()));
+    out
+}
+
+// The line.
+
+fn decision_words(site: &Site, case: &Case) -> String {
+    let refusal = wanted::refusal(site, case.clock, case.commands, &case.periods);
+    if refusal != 0 {
+        return format!("{refusal} - - - - - - -");
+    }
+    let d = decide(site, case.clock, case.commands, &case.periods);
+    let (wish, rate) = match d.wish {
+        Wish::Dark => ("dark", 0),
+        Wish::Green => ("green", 0),
+        Wish::Metering(rate) => ("meter", rate),
+        Wish::Clear => ("clear", 0),
+    };
+    let cycle = if rate == 0 { 0 } else { cycle(site, rate) };
+    format!("0 {} {} {} {} {wish} {rate} {cycle}", DAYS[d.day], d.entry, d.source, d.level)
+}
+
+fn poll_words(site: &Site, p: &Periods) -> String {
+    match poll(site, p, POLL_BUFFER) {
+        Err(refusal) => format!("poll {refusal}"),
+        Ok(record) => {
+            let hex: String = record.iter().map(|b| format!("{b:02x}")).collect();
+            format!("poll 0 {hex}")
+        }
+    }
+}
+
+pub fn line(case: &Case) -> String {
+    match site::read(&case.file) {
+        Err(r) => format!("site {} at {}\n", r.number, r.place),
+        Ok(site) => format!("{} {}\n", decision_words(&site, case), poll_words(&site, &case.periods)),
+    }
+}
+
+// Periods in range.
+
+fn metered_counts(r: &mut Random, ticks: u16, n: usize, c: &mut Counts) {
+    for i in 0..n {
+        c.passages[i] = r.edged(0, ticks);
+        c.greens[i] = r.edged(0, ticks);
+    }
+}
+
+/// Few vehicles, so that the flow stands among the levels' thresholds, or any number of them.
+fn vehicles(r: &mut Random, ticks: u16) -> u16 {
+    let most = r.pick(&[30, 30, 80, 300]);
+    r.edged(0, ticks.min(most))
+}
+
+fn speed_sum(r: &mut Random, timed: u16) -> u32 {
+    match r.from(0, 7) {
+        0 => 0,
+        1 => 250 * timed as u32,
+        // near a whole mean speed, for its rounding
+        2..=4 => {
+            (r.number(1, 249) as u32 * timed as u32 + r.from(0, 2) as u32).saturating_sub(1).min(250 * timed as u32)
+        }
+        _ => r.from(0, 250 * timed as u64) as u32,
+    }
+}
+
+fn mainline_counts(r: &mut Random, ticks: u16, m: usize, c: &mut Counts) {
+    let failing = r.pick(&[0, 0, 20, 20, 50, 50, 100]);
+    let timing = r.pick(&[0, 60, 90, 100]);
+    for j in 0..m {
+        c.worked[j] = if r.percent(failing) && ticks > 0 { r.edged(0, ticks - 1) } else { ticks };
+        c.vehicles[j] = vehicles(r, ticks);
+        c.occupied[j] = r.edged(0, 100 * ticks);
+        c.timed[j] = if r.percent(timing) { r.edged(0, c.vehicles[j]) } else { 0 };
+        c.speeds[j] = speed_sum(r, c.timed[j]);
+    }
+}
+
+fn counts(r: &mut Random, ticks: u16, n: usize, m: usize) -> Counts {
+    let mut c = Counts::default();
+    metered_counts(r, ticks, n, &mut c);
+    mainline_counts(r, ticks, m, &mut c);
+    c
+}
+
+fn periods(r: &mut Random, n: usize, m: usize) -> Periods {
+    let ticks = r.edged(0, 299);
+    let serial = match r.from(0, 9) {
+        0 => 0,
+        1 => 1,
+        2 => u32::MAX,
+        3 => r.number(65534, 65535) as u32 + 1,
+        _ => r.from(1, u32::MAX as u64) as u32,
+    };
+    let completed = if serial == 0 { 0 } else { 300 };
+    Periods { ticks, current: counts(r, ticks, n, m), serial, last: counts(r, completed, n, m) }
+}
+
+// Sites in range.
+
+fn timings(r: &mut Random) -> Vec<u16> {
+    let mut row: Vec<u16> = TIMINGS.iter().map(|(low, high)| r.edged(*low, *high)).collect();
+    row[4] = r.edged(row[3], 100);
+    row
+}
+
+/// How many rows: mostly few, at times all.
+fn rows(r: &mut Random, most: u16) -> u16 {
+    match r.from(0, 19) {
+        0 => most,
+        1 => r.number(0, most),
+        2 | 3 => 0,
+        _ => r.number(1, 6),
+    }
+}
+
+fn rate(r: &mut Random) -> u16 {
+    r.edged(150, 1800)
+}
+
+/// The rate and the table of a mode.
+fn rate_and_table(r: &mut Random, mode: u16, tables: u16) -> (u16, u16) {
+    let rate = if mode >= 2 { rate(r) } else { 0 };
+    let table = if mode == 3 { r.number(1, tables) } else { 0 };
+    (rate, table)
+}
+
+/// One day type, or any.
+fn day_mask(r: &mut Random) -> u16 {
+    if r.percent(50) {
+        1 << r.number(0, 7)
+    } else {
+        r.number(1, 255)
+    }
+}
+
+/// Entries on few distinct starts.
+fn entries(r: &mut Random, starts: &[u16], tables: u16) -> Vec<[u16; 5]> {
+    let days = r.pick(&[255, 255, 127, 0]);
+    (0..rows(r, 16))
+        .map(|_| {
+            let mask = if days != 0 && r.percent(70) { days } else { day_mask(r) };
+            let mode = r.pick(&[0, 1, 2, 3, 3, 3, 3, 3]);
+            let (rate, table) = rate_and_table(r, mode, tables);
+            [mask, r.pick(starts), mode, rate, table]
+        })
+        .collect()
+}
+
+/// The weeks that name this date in its month: its own, and 5 where it is the final one.
+fn weeks(date: Date) -> Vec<u16> {
+    let such = such_days(date.year, date.month, weekday(date));
+    let place = such.iter().position(|d| *d == date).unwrap() as u16 + 1;
+    if place as usize == such.len() {
+        vec![place, 5]
+    } else {
+        vec![place]
+    }
+}
+
+/// A row that names this date, or, with a kind of 3, the day after.
+fn naming(r: &mut Random, kind: u16, date: Date) -> [u16; 4] {
+    match kind {
+        1 => [1, date.month, date.day, 0],
+        _ => [kind, date.month, r.pick(&weeks(date)), weekday(date)],
+    }
+}
+
+/// A row that makes this date a holiday.
+fn hit(r: &mut Random, date: Date) -> [u16; 4] {
+    match r.number(1, 3) {
+        3 => naming(r, 3, day_before(date)),
+        kind => naming(r, kind, date),
+    }
+}
+
+/// A row that misses narrowly: another kind of the same date, or one number moved.
+fn miss(r: &mut Random, date: Date) -> [u16; 4] {
+    let mut row = hit(r, date);
+    match (r.from(0, 3), row[0]) {
+        (0, 1) => row[2] = if row[2] < 28 { row[2] + 1 } else { 1 },
+        (0, _) => row[2] = row[2] % 5 + 1,
+        (1, 1) => row[2] = if row[2] > 1 { row[2] - 1 } else { 28 },
+        (1, _) => row[3] = (row[3] + 1) % 7,
+        (2, 2 | 3) => row[0] = 5 - row[0],
+        _ => row[1] = row[1] % 12 + 1,
+    }
+    row[2] = if row[0] == 1 { row[2].min(site::days_in(row[1])) } else { row[2] };
+    row
+}
+
+fn any_holiday(r: &mut Random) -> [u16; 4] {
+    let (kind, month) = (r.number(1, 3), r.number(1, 12));
+    match kind {
+        1 => [1, month, r.edged(1, site::days_in(month)), 0],
+        _ => [kind, month, r.number(1, 5), r.number(0, 6)],
+    }
+}
+
+fn holidays(r: &mut Random, date: Date) -> Vec<[u16; 4]> {
+    let hitting = r.pick(&[0, 0, 10, 30]);
+    (0..rows(r, 16))
+        .map(|_| match r.from(1, 100) {
+            x if x <= hitting => hit(r, date),
+            x if x <= 60 => miss(r, date),
+            _ => any_holiday(r),
+        })
+        .collect()
+}
+
+/// A threshold just below, at or just above what was measured, unused, or any.
+fn threshold(r: &mut Random, measured: Option<u64>, high: u16) -> u16 {
+    match (r.from(0, 9), measured) {
+        (0..=4, Some(x)) => (x + 1).saturating_sub(r.from(0, 2)).clamp(1, high as u64) as u16,
+        (5..=8, _) => UNUSED,
+        _ => r.edged(1, high),
+    }
+}
+
+/// Levels, half of them with one threshold alone.
+fn levels(r: &mut Random, x: Option<Measures>, tables: u16) -> Vec<[u16; 5]> {
+    (0..rows(r, 24))
+        .map(|_| {
+            let flow = threshold(r, x.map(|x| x.flow), 3000);
+            let occupancy = threshold(r, x.map(|x| x.occupancy), 1000);
+            let speed = threshold(r, x.and_then(|x| x.speed), 250);
+            let alone = r.from(0, 5);
+            let used = |i: u64, t: u16| if alone < 3 && alone != i { UNUSED } else { t };
+            [r.number(1, tables), used(0, flow), used(1, occupancy), used(2, speed), rate(r)]
+        })
+        .collect()
+}
+
+// Clocks and commands in range.
+
+/// Dates at the ends of months and years, 29 February, and any.
+fn date(r: &mut Random) -> Date {
+    let year = r.edged(2000, 2099);
+    let month = r.number(1, 12);
+    match r.from(0, 19) {
+        0 => Date { year: 2000, month: 1, day: 1 },
+        1 => Date { year: 2099, month: 12, day: 31 },
+        2 => Date { year, month: 1, day: 1 },
+        3 => Date { year, month: 12, day: 31 },
+        4 => Date { year: year / 4 * 4, month: 2, day: 29 },
+        5 => Date { year, month: 3, day: 1 },
+        6 => Date { year, month, day: 1 },
+        7 => Date { year, month, day: month_length(year, month) },
+        8 => {
+            let such = such_days(year, 11, 4);
+            let day = such[3].day + r.number(0, 2);
+            if day > 30 {
+                Date { year, month: 12, day: 1 }
+            } else {
+                Date { year, month: 11, day }
+            }
+        }
+        _ => Date { year, month, day: r.number(1, month_length(year, month)) },
+    }
+}
+
+/// Tenths about the start of an entry, and any.
+fn tenth(r: &mut Random, starts: &[u16]) -> u32 {
+    let start = r.pick(starts) as u32 * 600;
+    match r.from(0, 9) {
+        0 => 0,
+        1 => 863_999,
+        2 | 3 => start,
+        4 => start.saturating_sub(1),
+        5 => start + 599,
+        6 => start + 1,
+        7 => r.from(start as u64, 863_999) as u32,
+        _ => r.from(0, 863_999) as u32,
+    }
+}
+
+fn command(r: &mut Random, tables: u16) -> Command {
+    if r.percent(75) {
+        return Command::default();
+    }
+    let kind = r.pick(&[1, 2, 3, 4, 4, 4]);
+    let (rate, table) = rate_and_table(r, kind - 1, tables);
+    Command { kind, rate, table }
+}
+
+fn starts(r: &mut Random) -> Vec<u16> {
+    let latest = r.pick(&[60, 720, 1439]);
+    (0..r.from(1, 3)).map(|_| r.edged(0, latest)).collect()
+}
+
+/// A case with nothing out of range.
+fn sound(r: &mut Random) -> Case {
+    let timings = timings(r);
+    let (n, m) = (timings[0] as usize, timings[14] as usize);
+    let periods = periods(r, n, m);
+    let tables = r.number(1, 4);
+    let starts = starts(r);
+    let date = date(r);
+    let mut holidays = holidays(r, date);
+    // the day before, 31 December 1999, is the final Friday of its month
+    if date == (Date { year: 2000, month: 1, day: 1 }) && r.percent(50) {
+        holidays.truncate(15);
+        holidays.push([3, 12, 5, 5]);
+    }
+    let entries = entries(r, &starts, tables);
+    let levels = levels(r, measures(&periods.last, m), tables);
+    let file = bytes(&Site { timings, entries, holidays, levels });
+    let clock = Clock { date, tenth: tenth(r, &starts) };
+    Case { file, clock, commands: [command(r, tables), command(r, tables)], periods }
+}
+
+// Damage.
+
+/// One count at an end of its range or beyond it.
+fn damage_count(r: &mut Random, p: &mut Periods) {
+    let current = r.percent(50);
+    let limit = if current { p.ticks } else { 300 };
+    let c = if current { &mut p.current } else { &mut p.last };
+    let (i, j) = (r.from(0, 3) as usize, r.from(0, 5) as usize);
+    let more = r.number(0, 1);
+    match r.from(0, 6) {
+        0 => c.passages[i] = limit + more,
+        1 => c.greens[i] = limit + more,
+        2 => c.worked[j] = limit + more,
+        3 => c.vehicles[j] = limit + more,
+        4 => c.occupied[j] = 100 * limit + more,
+        5 => c.timed[j] = c.vehicles[j] + more,
+        _ => c.speeds[j] = 250 * c.timed[j] as u32 + more as u32,
+    }
+}
+
+/// Something of any value in any lane, beyond n or m among them.
+fn damage_lane(r: &mut Random, p: &mut Periods) {
+    let value = r.pick(&[1, 2, 300, UNUSED]);
+    let c = if r.percent(50) { &mut p.current } else { &mut p.last };
+    let (i, j) = (r.from(2, 3) as usize, r.from(3, 5) as usize);
+    match r.from(0, 6) {
+        0 => c.passages[i] = value,
+        1 => c.greens[i] = value,
+        2 => c.worked[j] = value,
+        3 => c.vehicles[j] = value,
+        4 => c.occupied[j] = value,
+        5 => c.timed[j] = value,
+        _ => c.speeds[j] = r.pick(&[value as u32, 65536, u32::MAX]),
+    }
+}
+
+fn damage_period(r: &mut Random, p: &mut Periods) {
+    match r.from(0, 9) {
+        0..=4 => damage_count(r, p),
+        5..=7 => damage_lane(r, p),
+        // the counts of a completed period, at serial 0
+        8 => p.serial = 0,
+        _ => p.ticks = r.pick(&[300, 301, UNUSED]),
+    }
+}
+
+fn damage_clock(r: &mut Random, clock: &mut Clock) {
+    let d = clock.date;
+    match r.from(0, 9) {
+        0 => clock.tenth = r.pick(&[864_000, 864_001, u32::MAX]),
+        1 => clock.date.year = r.pick(&[0, 1999, 2100, UNUSED]),
+        2 => clock.date.month = r.pick(&[0, 13, 14, UNUSED]),
+        3 => clock.date.day = 0,
+        4 => clock.date.day = r.pick(&[32, UNUSED]),
+        5 => clock.date = Date { month: 2, day: 29, ..d },
+        6 => clock.date = Date { month: 2, day: 30, ..d },
+        7 => clock.date = Date { year: 1999, month: 12, day: 31 },
+        8 => clock.date = Date { year: 2100, month: 1, day: 1 },
+        _ => clock.date.day = month_length(d.year, d.month) + 1,
+    }
+}
+
+fn damage_command(r: &mut Random, commands: &mut [Command; 2]) {
+    let kind = r.pick(&[0, 1, 2, 3, 4, 5, UNUSED]);
+    let rate = r.pick(&[0, 1, 149, 150, 600, 1800, 1801, UNUSED]);
+    let table = r.pick(&[0, 1, 4, 5, UNUSED]);
+    let c = r.from(0, 1) as usize;
+    commands[c] = Command { kind, rate, table };
+    if r.percent(50) {
+        commands[1 - c] = Command { kind: 1, rate: 0, table: 0 };
+    }
+}
+
+fn damage_file(r: &mut Random, file: &mut Vec<u8>) {
+    match r.from(0, 3) {
+        0 => file.truncate(r.from(0, file.len() as u64 - 1) as usize),
+        1 => file.resize(file.len() + r.from(1, 3) as usize, 0),
+        _ => {
+            let at = r.from(0, file.len() as u64 / 2 - 1) as usize * 2;
+            let value: u16 = r.pick(&[0, 1, 4, 5, 17, 101, 1801, UNUSED]);
+            file[at..at + 2].copy_from_slice(&value.to_be_bytes());
+        }
+    }
+}
+
+fn damage(r: &mut Random, case: &mut Case) {
+    match r.from(0, 9) {
+        0..=4 => damage_period(r, &mut case.periods),
+        5 | 6 => damage_clock(r, &mut case.clock),
+        7 | 8 => damage_command(r, &mut case.commands),
+        _ => damage_file(r, &mut case.file),
+    }
+}
+
+/// Every fifth case is damaged, some of them twice: the checks have an order.
+fn random_case(r: &mut Random) -> Case {
+    let mut case = sound(r);
+    if r.percent(20) {
+        damage(r, &mut case);
+        if r.percent(30) {
+            damage(r, &mut case);
+        }
+    }
+    case
+}
+
+pub fn cases() -> Vec<Case> {
+    assert_eq!(calendar::weekday(Date { year: 2000, month: 1, day: 1 }), 6);
+    let mut r = Random::new(SEED);
+    (0..CASES).map(|_| random_case(&mut r)).collect()
+}

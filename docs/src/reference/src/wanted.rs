@@ -1,0 +1,148 @@
+//! 'Day and entry' and 'What is wanted' of document 01.
+
+use crate::calendar::{clock_ok, day_type, Clock};
+use crate::periods::{Counts, Periods};
+use crate::site::{rate_ok, table_ok, Site, UNUSED};
+
+#[derive(Clone, Copy, Debug, Default)]
+pub struct Command {
+    pub kind: u16,
+    pub rate: u16,
+    pub table: u16,
+}
+
+#[derive(Clone, Copy, Debug, PartialEq)]
+pub enum Wish {
+    Dark,
+    Green,
+    Metering(u16),
+    Clear,
+}
+
+pub struct Decision {
+    pub day: usize,
+    /// The entry's place in the file from 1, 0 for none.
+    pub entry: usize,
+    pub source: &'static str,
+    /// The level's place in the file from 1, 0 for none.
+    pub level: usize,
+    pub wish: Wish,
+}
+
+/// The measures over the good lanes; the mean speed only where a vehicle had one.
+#[derive(Clone, Copy, Debug)]
+pub struct Measures {
+    pub flow: u64,
+    pub occupancy: u64,
+    pub speed: Option<u64>,
+}
+
+pub fn lanes(site: &Site) -> (usize, usize) {
+    (site.timings[0] as usize, site.timings[14] as usize)
+}
+
+pub fn cycle(site: &Site, rate: u16) -> u32 {
+    (36000 * site.timings[2] as u32).div_ceil(rate as u32)
+}
+
+/// Among today's entries that have started, the latest start, and of equal ones the last filed.
+fn entry_in_force(site: &Site, day: usize, tenth: u32) -> usize {
+    let minute = (tenth / 600) as u16;
+    let places = 1..=site.entries.len();
+    let started = places.filter(|p| {
+        let [days, start, ..] = site.entries[p - 1];
+        days & (1 << day) != 0 && start <= minute
+    });
+    // of equal starts `max_by_key` takes the last
+    started.max_by_key(|p| site.entries[p - 1][1]).unwrap_or(0)
+}
+
+fn command_ok(c: Command) -> bool {
+    match c.kind {
+        0 => c.rate == 0 && c.table == 0,
+        1..=4 => rate_ok(c.kind - 1, c.rate) && table_ok(c.kind - 1, c.table),
+        _ => false,
+    }
+}
+
+/// None without a good lane.
+pub fn measures(c: &Counts, m: usize) -> Option<Measures> {
+    let good: Vec<usize> = (0..m).filter(|j| c.good(*j)).collect();
+    let lanes = good.len() as u64;
+    if lanes == 0 {
+        return None;
+    }
+    let vehicles: u64 = good.iter().map(|j| c.vehicles[*j] as u64).sum();
+    let occupied: u64 = good.iter().map(|j| c.occupied[*j] as u64).sum();
+    let timed: u64 = good.iter().map(|j| c.timed[*j] as u64).sum();
+    let speeds: u64 = good.iter().map(|j| c.speeds[*j] as u64).sum();
+    Some(Measures {
+        flow: vehicles * 120 / lanes,
+        occupancy: occupied / (30 * lanes),
+        speed: if timed == 0 { None } else { Some(speeds / timed) },
+    })
+}
+
+fn met(level: &[u16; 5], x: Measures) -> bool {
+    let [_, flow, occupancy, speed, _] = *level;
+    let slow = |known: u64| speed != UNUSED && known <= speed as u64;
+    (flow != UNUSED && x.flow >= flow as u64)
+        || (occupancy != UNUSED && x.occupancy >= occupancy as u64)
+        || x.speed.is_some_and(slow)
+}
+
+/// The wish of a responsive one, with the place of the level that decided.
+fn responsive(site: &Site, rate: u16, table: u16, p: &Periods) -> (usize, Wish) {
+    if p.serial == 0 {
+        return (0, Wish::Clear);
+    }
+    let Some(x) = measures(&p.last, lanes(site).1) else {
+        return (0, Wish::Metering(rate));
+    };
+    let those_met = site.levels.iter().enumerate().filter(|(_, l)| l[0] == table && met(l, x));
+    match those_met.last() {
+        Some((i, l)) => (i + 1, Wish::Metering(l[4])),
+        None => (0, Wish::Clear),
+    }
+}
+
+/// The wish of an entry's mode.
+fn wish(site: &Site, mode: u16, rate: u16, table: u16, p: &Periods) -> (usize, Wish) {
+    match mode {
+        0 => (0, Wish::Dark),
+        1 => (0, Wish::Green),
+        2 => (0, Wish::Metering(rate)),
+        _ => responsive(site, rate, table, p),
+    }
+}
+
+/// A tick's checks 13 of the periods, 8 and 10; the site came from a file, so 14 does not hold.
+pub fn refusal(site: &Site, clock: Clock, commands: [Command; 2], p: &Periods) -> u8 {
+    let (n, m) = lanes(site);
+    if p.spoilt(n, m) {
+        return 13;
+    }
+    if !clock_ok(clock) {
+        return 8;
+    }
+    if !commands.iter().all(|c| command_ok(*c)) {
+        return 10;
+    }
+    0
+}
+
+/// A manual command of kind 1-4 rules; else communications; else the entry; with none, dark.
+pub fn decide(site: &Site, clock: Clock, commands: [Command; 2], p: &Periods) -> Decision {
+    let day = day_type(clock.date, &site.holidays);
+    let entry = entry_in_force(site, day, clock.tenth);
+    let ruling = ["manual", "centre"].into_iter().zip(commands).find(|(_, c)| c.kind != 0);
+    let (source, (level, wish)) = match ruling {
+        Some((source, c)) => (source, wish(site, c.kind - 1, c.rate, c.table, p)),
+        None if entry == 0 => ("plan", (0, Wish::Dark)),
+        None => {
+            let [_, _, mode, rate, table] = site.entries[entry - 1];
+            ("plan", wish(site, mode, rate, table, p))
+        }
+    };
+    Decision { day, entry, source, level, wish }
+}
