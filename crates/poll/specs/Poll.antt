@@ -2,7 +2,7 @@
 -- lane's passages and greens begun; then count m and each mainline lane's vehicles, occupied ms and good 0 or 1. Lanes not working add
 -- nothing. Two-byte numbers as above." The serial's four bytes, highest first, are its two halves as such numbers. Lanes are counted from 0.
 use Prim.Native.Nat.{ℕ, zero, suc, _+_, _/_, _%_}
-use mathlib.Core.Bool.{Bool, cond}
+use mathlib.Core.Bool.{cond}
 use mathlib.Core.List.{List, [], _∷_, _++_}
 use lib.Dec.{eqb}
 use lib.ListN.{getD}
@@ -10,7 +10,6 @@ use Rattle.numbers.specs.Words.{bytes}
 use Rattle.site.specs.declared.Site.{Site}
 use Rattle.site.specs.Record.{meteredLanes, mainlineLanes, spoiltSite}
 use Rattle.period.specs.declared.Counts.{Counts}
-use Rattle.period.specs.declared.LaneCounts.{LaneCounts}
 use Rattle.period.specs.declared.Periods.{Periods}
 use Rattle.period.specs.Counts.{laneOf, goodOf}
 use Rattle.period.specs.Range.{periodsSpoilt}

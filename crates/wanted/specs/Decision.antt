@@ -1,6 +1,6 @@
 -- Document 01, 'Day and entry', 'What is wanted': what a clock, two commands and the periods decide at a site.
 use Prim.Native.Nat.{ℕ, _/_}
-use mathlib.Core.Bool.{Bool, cond}
+use mathlib.Core.Bool.{cond}
 use lib.Dec.{eqb}
 use Rattle.site.specs.declared.Site.{Site}
 use Rattle.site.specs.Record.{meteredLanes, mainlineLanes, spoiltSite}

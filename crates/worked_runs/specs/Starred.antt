@@ -1,8 +1,8 @@
 -- Document 01, 'Worked runs': the runs marked * in one proof, by computation from the definitions that the calls' contracts cite.
 use Prim.Native.Nat.{ℕ}
 use mathlib.Core.Path.{_≡_, refl}
-use mathlib.Core.Bool.{Bool, true, false}
-use mathlib.Core.List.{List, [], _∷_, _++_}
+use mathlib.Core.Bool.{true, false}
+use mathlib.Core.List.{[], _∷_, _++_}
 use lib.ListN.{length, take, replicate}
 use Rattle.ranges.specs.Ranges.{isWithin, timingRange}
 use Rattle.ranges.specs.Sections.{rangeOf, isGood}
@@ -11,9 +11,9 @@ use Rattle.site.specs.Writing.{wordsOf, bytesOf}
 use Rattle.calendar.specs.declared.day.Date.{Date}
 use Rattle.calendar.specs.Dates.{isWithin as isWithinDates, daysBefore, monthLength, isDate, dayNumber, weekdayOf}
 use Rattle.calendar.specs.Days.{inMonth, todayOf, monthBefore, yesterdayOf}
-use Rattle.calendar.specs.Holidays.{rowOf, isFloating, dayTypeOf, isNamed, isFixed}
+use Rattle.calendar.specs.Holidays.{isFloating, dayTypeOf, isNamed, isFixed}
 use Rattle.period.specs.declared.Counts.{Counts}
-use Rattle.period.specs.Counts.{noCounts, goodOf}
+use Rattle.period.specs.Counts.{goodOf}
 use Rattle.levels.specs.declared.Level.{Level}
 use Rattle.levels.specs.Measures.{withLane, totalsOf, measuresOf}
 use Rattle.levels.specs.Levels.{reachesOf, isSlow, isMet}

@@ -1,34 +1,26 @@
 -- The code's test is the definition's.
 use Rattle.wanted.specs.Cycle.{cycleTicks}
-use borrow.Author.Tests.{lt-ltb, le-ltb, eq-eqb, ne-eqb}
+use borrow.Author.Tests.{eq-eqb, ne-eqb}
 use borrow.Author.Needs.{needs}
 use Rattle.wanted.proofs.cycle_ticks.Statement.{statement}
 use Rattle.wanted.proofs.cycle_ticks.Tie as tie
-use Rattle.wanted.proofs.cycle_ticks.Reads as reads
-use Rattle.wanted.proofs.cycle_ticks.Lts as lts
 
--- src/lib.rt:36:9
 returns : tie.Need-returns
 unfolding cycleTicks
 returns c = rw (eq-eqb _ _ (c .if1 .taken))
 
--- src/lib.rt:39:6
 mul-result : tie.Need-mul-result
 mul-result c = search needs
 
--- src/lib.rt:39:35
 sub-result : tie.Need-sub-result
 sub-result c = search needs
 
--- src/lib.rt:39:6
 add-result : tie.Need-add-result
 add-result c = search needs
 
--- src/lib.rt:39:5
 div-result : tie.Need-div-result
 div-result c = search needs
 
--- src/lib.rt:32:1
 returns-2 : tie.Need-returns-2
 unfolding cycleTicks
 returns-2 c = rw (ne-eqb _ _ (c .if1 .left))

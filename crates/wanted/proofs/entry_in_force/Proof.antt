@@ -1,26 +1,18 @@
 -- The plan's entry in force at the clock's minute.
-use Rattle.wanted.specs.Decision.{dayOf, entryInForce}
-use mathlib.Core.Path.{_≡_, _∙_}
+use Rattle.wanted.specs.Decision.{entryInForce}
 use borrow.Author.Needs.{needs}
 use Rattle.wanted.proofs.entry_in_force.Statement.{statement}
 use Rattle.wanted.proofs.entry_in_force.Tie as tie
-use Rattle.wanted.proofs.entry_in_force.Reads as reads
-use Rattle.wanted.proofs.entry_in_force.Lts as lts
-use Rattle.plan.proofs.in_force.Reads as in-force-reads
 
--- src/lib.rt:67:20
 slice-aggregate-in-force : tie.Need-slice-aggregate-in-force
 slice-aggregate-in-force c = search needs
 
--- src/lib.rt:67:46
 cast-in-force : tie.Need-cast-in-force
 cast-in-force c = search needs
 
--- src/lib.rt:67:5
 in-force-requires : tie.Need-in-force-requires
 in-force-requires c κs = search needs
 
--- src/lib.rt:62:1
 returns : tie.Need-returns
 unfolding entryInForce
 returns c = rw (← c .before .before .before .before .pre .0) (c .in-force .ensures)

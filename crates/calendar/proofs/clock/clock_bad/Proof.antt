@@ -4,20 +4,14 @@ use borrow.Author.Tests.{not-true, not-false}
 use borrow.Author.Needs.{needs}
 use Rattle.calendar.proofs.clock.clock_bad.Statement.{statement}
 use Rattle.calendar.proofs.clock.clock_bad.Tie as tie
-use Rattle.calendar.proofs.clock.clock_bad.Reads as reads
-use Rattle.calendar.proofs.clock.clock_bad.Lts as lts
-use Rattle.calendar.proofs.day.is_date.Reads as is-date-reads
 
--- src/clock.rt:22:9
 is-date-requires : tie.Need-is-date-requires
 is-date-requires c κs = search needs
 
--- src/clock.rt:23:9
 returns : tie.Need-returns
 unfolding clockBad
 returns c = rw (← c .before .is-date .ensures, not-true (c .before .is-date .result) (c .if1 .taken))
 
--- src/clock.rt:18:1
 returns-2 : tie.Need-returns-2
 unfolding clockBad
 returns-2 c = rw (← c .before .before .is-date .ensures, not-false (c .before .before .is-date .result) (c .before .if1 .left))

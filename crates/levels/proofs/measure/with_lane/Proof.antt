@@ -1,5 +1,5 @@
-use Prim.Native.Nat.{_≤_}
 -- The code's tests are the definition's; a lane's counts fit their types.
+use Prim.Native.Nat.{_≤_}
 use Rattle.levels.specs.Measures.{withLane}
 use Rattle.period.specs.Counts.{goodOf}
 use borrow.Author.Tests.{lt-ltb, le-ltb, eq-eqb, ne-eqb}

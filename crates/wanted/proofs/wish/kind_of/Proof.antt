@@ -1,22 +1,17 @@
 -- The code's test is the definition's.
 use Rattle.wanted.specs.Wish.{kindOf}
-use borrow.Author.Tests.{lt-ltb, le-ltb, eq-eqb, ne-eqb}
+use borrow.Author.Tests.{lt-ltb, le-ltb}
 use borrow.Author.Needs.{needs}
 use Rattle.wanted.proofs.wish.kind_of.Statement.{statement}
 use Rattle.wanted.proofs.wish.kind_of.Tie as tie
-use Rattle.wanted.proofs.wish.kind_of.Reads as reads
-use Rattle.wanted.proofs.wish.kind_of.Lts as lts
 
--- src/wish.rt:35:19
 add-result : tie.Need-add-result
 add-result c = search needs
 
--- src/wish.rt:32:1
 returns : tie.Need-returns
 unfolding kindOf
 returns c = rw (lt-ltb _ _ (c .if1 .taken))
 
--- src/wish.rt:32:1
 returns-2 : tie.Need-returns-2
 unfolding kindOf
 returns-2 c = rw (le-ltb _ _ (c .if1 .left))

@@ -1,27 +1,20 @@
 -- The code's test is the definition's.
 use Rattle.wanted.specs.Wish.{levelChoice}
-use borrow.Author.Tests.{lt-ltb, le-ltb, eq-eqb, ne-eqb}
+use borrow.Author.Tests.{eq-eqb, ne-eqb}
 use borrow.Author.Needs.{needs}
 use Rattle.wanted.proofs.wish.level_choice.Statement.{statement}
 use Rattle.wanted.proofs.wish.level_choice.Tie as tie
-use Rattle.wanted.proofs.wish.level_choice.Reads as reads
-use Rattle.wanted.proofs.wish.level_choice.Lts as lts
-use Rattle.levels.proofs.level_at.Reads as level-at-reads
 
--- src/wish.rt:79:9
 returns : tie.Need-returns
 unfolding levelChoice
 returns c = rw (eq-eqb _ _ (c .if1 .taken))
 
--- src/wish.rt:84:36
 sub-level-at : tie.Need-sub-level-at
 sub-level-at c = search needs
 
--- src/wish.rt:84:9
 level-at-requires : tie.Need-level-at-requires
 level-at-requires c κs = search needs
 
--- src/wish.rt:75:1
 returns-2 : tie.Need-returns-2
 unfolding levelChoice
 returns-2 c = rw (ne-eqb _ _ (c .before .if1 .left), c .level-at .ensures)

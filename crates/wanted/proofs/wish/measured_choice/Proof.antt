@@ -1,33 +1,23 @@
 -- The code's test is the definition's.
 use Rattle.wanted.specs.Wish.{measuredChoice}
-use borrow.Author.Tests.{lt-ltb, le-ltb, eq-eqb, ne-eqb}
+use borrow.Author.Tests.{eq-eqb, ne-eqb}
 use borrow.Author.Needs.{needs}
 use Rattle.wanted.proofs.wish.measured_choice.Statement.{statement}
 use Rattle.wanted.proofs.wish.measured_choice.Tie as tie
-use Rattle.wanted.proofs.wish.measured_choice.Reads as reads
-use Rattle.wanted.proofs.wish.measured_choice.Lts as lts
-use Rattle.levels.proofs.deciding.Reads as deciding-reads
-use Rattle.levels.proofs.measured.Reads as measured-reads
-use Rattle.wanted.proofs.wish.level_choice.Reads as level-choice-reads
 
--- src/wish.rt:96:9
 returns : tie.Need-returns
 unfolding measuredChoice
 returns c = rw (eq-eqb _ _ (c .if1 .taken))
 
--- src/wish.rt:103:48
 measured-requires : tie.Need-measured-requires
 measured-requires c κs = search needs
 
--- src/wish.rt:103:9
 deciding-requires : tie.Need-deciding-requires
 deciding-requires c κs = search needs
 
--- src/wish.rt:101:5
 level-choice-requires : tie.Need-level-choice-requires
 level-choice-requires c κs = search needs
 
--- src/wish.rt:91:1
 returns-2 : tie.Need-returns-2
 unfolding measuredChoice
 returns-2 c = rw (ne-eqb _ _ (c .before .before .before .if1 .left), ← c .before .before .measured .ensures, ← c .before .deciding .ensures) (c .level-choice .ensures)

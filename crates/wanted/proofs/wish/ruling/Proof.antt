@@ -1,22 +1,17 @@
 -- The code's tests are the definition's, the other way round.
 use Rattle.wanted.specs.Wish.{rulingOf}
-use borrow.Author.Tests.{lt-ltb, le-ltb, eq-eqb, ne-eqb}
+use borrow.Author.Tests.{eq-eqb, ne-eqb}
 use Rattle.wanted.proofs.wish.ruling.Statement.{statement}
 use Rattle.wanted.proofs.wish.ruling.Tie as tie
-use Rattle.wanted.proofs.wish.ruling.Reads as reads
-use Rattle.wanted.proofs.wish.ruling.Lts as lts
 
--- src/wish.rt:55:9
 returns : tie.Need-returns
 unfolding rulingOf
 returns c = rw (ne-eqb _ _ (c .if1 .taken))
 
--- src/wish.rt:58:9
 returns-2 : tie.Need-returns-2
 unfolding rulingOf
 returns-2 c = rw (eq-eqb _ _ (c .before .before .if1 .left), ne-eqb _ _ (c .if2 .taken))
 
--- src/wish.rt:51:1
 returns-3 : tie.Need-returns-3
 unfolding rulingOf
 returns-3 c = rw (eq-eqb _ _ (c .before .before .if1 .left), eq-eqb _ _ (c .if2 .left))

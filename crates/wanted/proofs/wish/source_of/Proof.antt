@@ -1,22 +1,17 @@
 -- The code's tests are the definition's, the other way round.
 use Rattle.wanted.specs.Wish.{sourceOf}
-use borrow.Author.Tests.{lt-ltb, le-ltb, eq-eqb, ne-eqb}
+use borrow.Author.Tests.{eq-eqb, ne-eqb}
 use Rattle.wanted.proofs.wish.source_of.Statement.{statement}
 use Rattle.wanted.proofs.wish.source_of.Tie as tie
-use Rattle.wanted.proofs.wish.source_of.Reads as reads
-use Rattle.wanted.proofs.wish.source_of.Lts as lts
 
--- src/wish.rt:67:9
 returns : tie.Need-returns
 unfolding sourceOf
 returns c = rw (ne-eqb _ _ (c .if1 .taken))
 
--- src/wish.rt:70:9
 returns-2 : tie.Need-returns-2
 unfolding sourceOf
 returns-2 c = rw (eq-eqb _ _ (c .before .before .if1 .left), ne-eqb _ _ (c .if2 .taken))
 
--- src/wish.rt:63:1
 returns-3 : tie.Need-returns-3
 unfolding sourceOf
 returns-3 c = rw (eq-eqb _ _ (c .before .before .if1 .left), eq-eqb _ _ (c .if2 .left))
