@@ -1,7 +1,8 @@
 -- Document 01, 'Day and entry': "The entry in force is, among today's day type with start minute at or before now, the one of the latest
 -- start, and among equal starts the one filed last."
-use Prim.Native.Nat.{ℕ, zero, suc, _+_}
-use mathlib.Core.Bool.{Bool, cond, _&&_}
+use Prim.Native.Nat.{ℕ, zero, suc, _+_, _≤_, _<_}
+use mathlib.Core.Path.{_≡_}
+use mathlib.Core.Bool.{Bool, true, false, cond, _&&_}
 use mathlib.Core.List.{List}
 use lib.Dec.{leb}
 use Rattle.plan.specs.declared.Entry.{Entry}
@@ -23,3 +24,14 @@ inForceFrom rows day minute best start i (suc n) =
 -- The place from 1 of the entry in force, of a plan of count entries; 0 for none.
 unfoldable pub inForceOf : List ℕ → ℕ → ℕ → ℕ → ℕ
 inForceOf rows count day minute = inForceFrom rows day minute 0 0 0 count
+
+-- The same in the paper's own words, which `in_force` promises too. An entry applies if it is of today's day type and has started.
+unfoldable pub applies : List ℕ → ℕ → ℕ → ℕ → Bool
+applies rows day minute j = onDay (entryOf rows j .days) day && leb (entryOf rows j .start) minute
+
+-- Of the first count entries, the one at this place from 1 is in force; at 0, none applies.
+pub record InForce (rows : List ℕ) (count day minute place : ℕ) : Type 0 where
+  pub none : place ≡ 0 → (j : ℕ) → j < count → applies rows day minute j ≡ false
+  pub one-of-them : (k : ℕ) → place ≡ k + 1 → applies rows day minute k ≡ true
+  pub latest-start : (k j : ℕ) → place ≡ k + 1 → j < count → applies rows day minute j ≡ true → entryOf rows j .start ≤ entryOf rows k .start
+  pub filed-last : (k j : ℕ) → place ≡ k + 1 → j < count → applies rows day minute j ≡ true → entryOf rows j .start ≡ entryOf rows k .start → j ≤ k

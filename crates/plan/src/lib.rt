@@ -1,7 +1,7 @@
 // The plan's entries.
 ghost use mathlib.Core.Path.{_≡_};
 ghost use Rattle.plan.specs.Entry.{entryOf, onDay};
-ghost use Rattle.plan.specs.InForce.{isLater, inForceOf};
+ghost use Rattle.plan.specs.InForce.{isLater, inForceOf, InForce};
 
 // One time-of-day entry.
 pub struct Entry {
@@ -55,9 +55,11 @@ fn is_later(e: Entry, day: u16, minute: u16, start: u16) -> bool
     start <= e.start
 }
 
-// The place from 1 of the entry in force; 0 for none.
+// The place from 1 of the entry in force; 0 for none. It is the latest start of those that apply, and
+// of equal starts the last filed.
 pub fn in_force(rows: &[u16], count: u16, day: u16, minute: u16) -> u16
-    ensures { λ r. ⌜ r ≡ inForceOf (now (rows .entry)) count day minute ⌝ }
+    ensures is { λ r. ⌜ r ≡ inForceOf (now (rows .entry)) count day minute ⌝ }
+    ensures latest { λ r. ⌜ InForce (now (rows .entry)) count day minute r ⌝ }
 {
     let mut best: u16 = 0;
     let mut start: u16 = 0;

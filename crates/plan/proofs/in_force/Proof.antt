@@ -1,5 +1,6 @@
 -- The loop's invariant: the search that is left, from what was found so far, ends as the whole does.
 use Rattle.plan.proofs.Turns.{takes, skips, ends}
+use Rattle.plan.proofs.InForceLaws.{is-in-force}
 use Rattle.plan.specs.InForce.{isLater, inForceFrom, inForceOf}
 use Rattle.plan.specs.Entry.{entryOf}
 use Rattle.plan.specs.declared.Entry.{Entry}
@@ -53,12 +54,16 @@ loop-again c =
           (c .if1 .came),
     )
 
-returns : tie.Need-returns Inv-loop μ-loop
+found : (c : tie.After-loop Inv-loop μ-loop)
+    → let a = c .before .before .before .args in c .before .loop .best ≡ inForceOf (now (a .rows)) (a .count) (a .day) (a .minute)
 unfolding inForceOf
-returns c =
+found c =
     let h = c .before in
     let a = h .before .before .args in
     sym (ends (now (a .rows)) (a .day) (a .minute) (h .loop .best) (h .loop .start) (h .loop .i) _ (c .loop-test .left)) ∙ h .loop .inv .1
+
+returns : tie.Need-returns Inv-loop μ-loop
+returns c = let a = c .before .before .before .args in (found c, rw (found c) (is-in-force (now (a .rows)) (a .count) (a .day) (a .minute)))
 
 pub in-force-spec : {M : Type 1} → statement M
 in-force-spec =

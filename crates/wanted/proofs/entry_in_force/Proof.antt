@@ -15,7 +15,7 @@ in-force-requires c κs = search needs
 
 returns : tie.Need-returns
 unfolding entryInForce
-returns c = rw (← c .before .before .before .before .pre .0) (c .in-force .ensures)
+returns c = rw (← c .before .before .before .before .pre .0) (c .in-force .ensures .0)
 
 pub entry-in-force-spec : {M : Type 1} → statement M
 entry-in-force-spec =
