@@ -1,3 +1,2 @@
-pub mod Cycle
 pub mod Wish
 pub mod Decision

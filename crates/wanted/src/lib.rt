@@ -3,7 +3,6 @@ mod wish;
 
 ghost use mathlib.Core.Path.{_≡_};
 ghost use Prim.Native.Nat.{_≤_};
-ghost use Rattle.wanted.specs.Cycle.{cycleTicks};
 ghost use Rattle.wanted.specs.Wish.{rateOf};
 ghost use Rattle.wanted.specs.Decision.{dayOf, entryInForce, decisionOf, refusalOf, noDecision, decidedOf};
 use calendar::Clock;
@@ -26,17 +25,6 @@ pub struct Decision {
 pub struct Decided {
     pub refusal: u8,
     pub decision: Decision,
-}
-
-// The cycle in ticks of a metering rate, with so many vehicles per green; 0 for a rate of 0.
-pub fn cycle_ticks(vehicles: u16, rate: u16) -> u32
-    ensures { λ r. ⌜ r ≡ cycleTicks vehicles rate ⌝ }
-{
-    if rate == 0 {
-        return 0;
-    }
-    let rate = rate as u32;
-    (36000 * (vehicles as u32) + (rate - 1)) / rate
 }
 
 // The rate of a wish; 0 for none.

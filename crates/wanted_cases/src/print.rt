@@ -64,7 +64,7 @@ fn wish_at(w: Wish, vehicles: u16) {
     wish(w);
     let rate = wanted::rate_of(w);
     number(rate as u64);
-    number(wanted::cycle_ticks(vehicles, rate) as u64);
+    number(release::cycle_ticks(vehicles, rate) as u64);
 }
 
 fn decision(d: Decision, vehicles: u16) {

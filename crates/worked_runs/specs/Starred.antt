@@ -17,7 +17,7 @@ use Rattle.period.specs.Counts.{goodOf}
 use Rattle.levels.specs.declared.Level.{Level}
 use Rattle.levels.specs.Measures.{withLane, totalsOf, measuresOf}
 use Rattle.levels.specs.Levels.{reachesOf, isSlow, isMet}
-use Rattle.wanted.specs.Cycle.{cycleTicks}
+use Rattle.release.specs.Cycle.{cycleTicks}
 use Rattle.worked_runs.specs.SiteA.{siteA}
 
 abbrev pub date : ℕ → ℕ → ℕ → Date

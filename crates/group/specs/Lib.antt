@@ -1,0 +1,4 @@
+pub mod Intervals
+pub mod Group
+pub mod Indications
+pub mod Range

@@ -1,0 +1,97 @@
+// One lane's interval: green, yellow, red.
+ghost use mathlib.Core.Path.{_≡_};
+ghost use Rattle.lanes.specs.Intervals.{riseOf, passagesOf, greenEnds, greenAt, yellowAt, laneTick};
+use crate::Lane;
+use crate::Timings;
+
+// One more, to 720 at most.
+pub fn rise(x: u16) -> u16
+    ensures { λ r. ⌜ r ≡ riseOf x ⌝ }
+{
+    if x < 720 { x + 1 } else { 720 }
+}
+
+// The passages of a green with this tick's sample; they stop at 3.
+fn passages_of(count: u16, passage: u16) -> u16
+    ensures { λ r. ⌜ r ≡ passagesOf count passage ⌝ }
+{
+    if passage != 1 {
+        return count;
+    }
+    if count < 3 {
+        return count + 1;
+    }
+    count
+}
+
+fn green_ends(t: Timings, age: u16, passages: u16) -> bool
+    ensures { λ r. ⌜ r ≡ greenEnds t age passages ⌝ }
+{
+    if t.maxgreen <= age {
+        return true;
+    }
+    if age < t.mingreen {
+        return false;
+    }
+    t.vehicles <= passages
+}
+
+// A green lane of this age.
+fn green_at(t: Timings, age: u16, counter: u16, passages: u16) -> Lane
+    ensures { λ r. ⌜ r ≡ greenAt t age counter passages ⌝ }
+{
+    if green_ends(t, age, passages) {
+        return Lane {
+            colour: 2,
+            age: 0,
+            counter,
+            passages,
+        };
+    }
+    Lane {
+        colour: 3,
+        age,
+        counter,
+        passages,
+    }
+}
+
+// A yellow lane of this age.
+fn yellow_at(t: Timings, age: u16, counter: u16, passages: u16) -> Lane
+    ensures { λ r. ⌜ r ≡ yellowAt t age counter passages ⌝ }
+{
+    if t.yellow <= age {
+        return Lane {
+            colour: 1,
+            age: 0,
+            counter,
+            passages,
+        };
+    }
+    Lane {
+        colour: 2,
+        age,
+        counter,
+        passages,
+    }
+}
+
+// A lane one tick later, not released.
+pub fn lane_tick(t: Timings, l: Lane, passage: u16) -> Lane
+    ensures { λ r. ⌜ r ≡ laneTick t l passage ⌝ }
+{
+    let age = rise(l.age);
+    let counter = rise(l.counter);
+    if l.colour == 3 {
+        return green_at(t, age, counter, passages_of(l.passages, passage));
+    }
+    if l.colour == 2 {
+        return yellow_at(t, age, counter, l.passages);
+    }
+    Lane {
+        colour: l.colour,
+        age,
+        counter,
+        passages: l.passages,
+    }
+}

@@ -1,0 +1,139 @@
+// The lanes of a group in metering: colours, ages, counters, from one tick to the next.
+mod interval;
+
+ghost use mathlib.Core.Path.{_≡_};
+ghost use lib.ListN.{getD};
+ghost use Rattle.lanes.specs.Lanes.{laneOf, lanesOf, laneTickAt, lanesTick, laneEntered, lanesEntered};
+
+// A lane's colours; a lane that the site lacks has none.
+pub const RED: u16 = 1;
+
+pub const YELLOW: u16 = 2;
+
+pub const GREEN: u16 = 3;
+
+// Where ages and counters of the lanes stop.
+pub const LONGEST: u16 = 720;
+
+// The timings that lanes in metering go by; times in ticks.
+pub struct Timings {
+    pub lanes: u16,
+    // 0 mutual exclusion, 1 fractional offset
+    pub mode: u16,
+    // per green
+    pub vehicles: u16,
+    pub mingreen: u16,
+    pub maxgreen: u16,
+    pub yellow: u16,
+    pub minred: u16,
+}
+
+// One lane: its colour and that colour's age, the ticks since its last green began, and the passages
+// of that green.
+pub struct Lane {
+    pub colour: u16,
+    pub age: u16,
+    pub counter: u16,
+    pub passages: u16,
+}
+
+// Four lanes, the ticks since the group's last green began, and the lane released last, from 1.
+pub struct Lanes {
+    pub colours: [u16; 4],
+    pub ages: [u16; 4],
+    pub counters: [u16; 4],
+    pub passages: [u16; 4],
+    pub offset: u16,
+    pub last: u16,
+}
+
+// Lane i, the first lane being 0; all 0 past the fourth.
+pub fn lane_at(s: Lanes, i: u16) -> Lane
+    ensures { λ r. ⌜ r ≡ laneOf s i ⌝ }
+{
+    let k = i as usize;
+    if 4 <= k {
+        return Lane {
+            colour: 0,
+            age: 0,
+            counter: 0,
+            passages: 0,
+        };
+    }
+    Lane {
+        colour: s.colours[k],
+        age: s.ages[k],
+        counter: s.counters[k],
+        passages: s.passages[k],
+    }
+}
+
+// These four lanes.
+pub fn of_lanes(a: Lane, b: Lane, c: Lane, d: Lane, offset: u16, last: u16) -> Lanes
+    ensures { λ r. ⌜ r ≡ lanesOf a b c d offset last ⌝ }
+{
+    Lanes {
+        colours: [a.colour, b.colour, c.colour, d.colour],
+        ages: [a.age, b.age, c.age, d.age],
+        counters: [a.counter, b.counter, c.counter, d.counter],
+        passages: [a.passages, b.passages, c.passages, d.passages],
+        offset,
+        last,
+    }
+}
+
+// Lane i one tick later; one that the site lacks stays as it is.
+fn tick_at(t: Timings, s: Lanes, passage: [u16; 4], i: u16) -> Lane
+    ensures { λ r. ⌜ r ≡ laneTickAt t s passage i ⌝ }
+{
+    let lane = lane_at(s, i);
+    if t.lanes <= i {
+        return lane;
+    }
+    let k = i as usize;
+    if 4 <= k {
+        return interval::lane_tick(t, lane, 0);
+    }
+    interval::lane_tick(t, lane, passage[k])
+}
+
+// The lanes one tick later, none released, with the tick's passage samples.
+pub fn tick(t: Timings, s: Lanes, passage: [u16; 4]) -> Lanes
+    ensures { λ r. ⌜ r ≡ lanesTick t s passage ⌝ }
+{
+    let a = tick_at(t, s, passage, 0);
+    let b = tick_at(t, s, passage, 1);
+    let c = tick_at(t, s, passage, 2);
+    let d = tick_at(t, s, passage, 3);
+    of_lanes(a, b, c, d, interval::rise(s.offset), s.last)
+}
+
+fn entered_lane(n: u16, i: u16) -> Lane
+    ensures { λ r. ⌜ r ≡ laneEntered n i ⌝ }
+{
+    if i < n {
+        return Lane {
+            colour: RED,
+            age: 0,
+            counter: LONGEST,
+            passages: 0,
+        };
+    }
+    Lane {
+        colour: 0,
+        age: 0,
+        counter: 0,
+        passages: 0,
+    }
+}
+
+// The lanes on entering metering, at a site of n lanes.
+pub fn entered(n: u16) -> Lanes
+    ensures { λ r. ⌜ r ≡ lanesEntered n ⌝ }
+{
+    let a = entered_lane(n, 0);
+    let b = entered_lane(n, 1);
+    let c = entered_lane(n, 2);
+    let d = entered_lane(n, 3);
+    of_lanes(a, b, c, d, LONGEST, n)
+}

@@ -1,0 +1,136 @@
+// Which lane a tick releases, and what its release does. Lanes are numbered from 1, and 0 is none.
+mod cycle;
+
+ghost use mathlib.Core.Path.{_≡_};
+ghost use Prim.Native.Nat.{_-_, _≤_};
+ghost use lib.ListN.{getD};
+ghost use Rattle.release.specs.Release.{isReady, readyAt, anyGreen, mayRelease, nextLane, firstAfter, releasedOf, greenIf, releaseOf};
+pub use cycle::cycle_ticks;
+use lanes::Lane;
+use lanes::Lanes;
+use lanes::Timings;
+
+// Whether a lane is ready: red at least the minimum, in demand, a cycle from its last green's start.
+fn is_ready(t: Timings, cycle: u16, demand: u16, l: Lane) -> bool
+    ensures { λ r. ⌜ r ≡ isReady t cycle demand l ⌝ }
+{
+    if l.colour != 1 {
+        return false;
+    }
+    if l.age < t.minred {
+        return false;
+    }
+    if demand != 1 {
+        return false;
+    }
+    cycle <= l.counter
+}
+
+// The demand of lane i, the first lane being 0; none past the fourth.
+fn demand_at(demand: [u16; 4], i: u16) -> u16
+    ensures { λ r. ⌜ r ≡ getD demand i 0 ⌝ }
+{
+    let k = i as usize;
+    if 4 <= k {
+        return 0;
+    }
+    demand[k]
+}
+
+// The same of lane k.
+fn ready_at(t: Timings, cycle: u16, demand: [u16; 4], s: Lanes, k: u16) -> bool
+    requires { ⌜ 1 ≤ k ⌝ }
+    ensures { λ r. ⌜ r ≡ readyAt t cycle demand s k ⌝ }
+{
+    let i = k - 1;
+    let wants = demand_at(demand, i);
+    let lane = lanes::lane_at(s, i);
+    is_ready(t, cycle, wants, lane)
+}
+
+// Whether one of n lanes is green.
+fn any_green(s: Lanes, n: u16) -> bool
+    ensures { λ r. ⌜ r ≡ anyGreen s n ⌝ }
+{
+    let mut i: u16 = 0;
+    while i < n {
+        let lane = lanes::lane_at(s, i);
+        if lane.colour == 3 {
+            return true;
+        }
+        i += 1;
+    }
+    false
+}
+
+// Whether a lane may be released at all.
+fn may_release(t: Timings, cycle: u16, s: Lanes) -> bool
+    ensures { λ r. ⌜ r ≡ mayRelease t cycle s ⌝ }
+{
+    if t.mode == 1 {
+        return cycle::offset_ticks(cycle, t.lanes) <= s.offset as u32;
+    }
+    !any_green(s, t.lanes)
+}
+
+// The lane after lane k, of n.
+fn next_lane(n: u16, k: u16) -> u16
+    ensures { λ r. ⌜ r ≡ nextLane n k ⌝ }
+{
+    if k < n { k + 1 } else { 1 }
+}
+
+// The first ready lane from the lane after the last released.
+fn first_ready(t: Timings, cycle: u16, demand: [u16; 4], s: Lanes) -> u16
+    ensures { λ r. ⌜ r ≡ firstAfter (readyAt t cycle demand s) (t .lanes) (s .last) (t .lanes) ⌝ }
+{
+    let mut k = s.last;
+    let mut more = t.lanes;
+    while 0 < more {
+        k = next_lane(t.lanes, k);
+        if ready_at(t, cycle, demand, s, k) {
+            return k;
+        }
+        more -= 1;
+    }
+    0
+}
+
+// The lane that this tick releases.
+pub fn released(t: Timings, cycle: u16, demand: [u16; 4], s: Lanes) -> u16
+    ensures { λ r. ⌜ r ≡ releasedOf t cycle demand s ⌝ }
+{
+    if may_release(t, cycle, s) {
+        return first_ready(t, cycle, demand, s);
+    }
+    0
+}
+
+// Lane k, turned green if it is the released one.
+fn green_if(released: u16, k: u16, l: Lane) -> Lane
+    ensures { λ r. ⌜ r ≡ greenIf released k l ⌝ }
+{
+    if released == k {
+        return Lane {
+            colour: 3,
+            age: 0,
+            counter: 0,
+            passages: 0,
+        };
+    }
+    l
+}
+
+// The lanes with this one just released.
+pub fn release(s: Lanes, released: u16) -> Lanes
+    ensures { λ r. ⌜ r ≡ releaseOf s released ⌝ }
+{
+    if released == 0 {
+        return s;
+    }
+    let a = green_if(released, 1, lanes::lane_at(s, 0));
+    let b = green_if(released, 2, lanes::lane_at(s, 1));
+    let c = green_if(released, 3, lanes::lane_at(s, 2));
+    let d = green_if(released, 4, lanes::lane_at(s, 3));
+    lanes::of_lanes(a, b, c, d, 0, released)
+}
