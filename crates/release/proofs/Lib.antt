@@ -1,0 +1,3 @@
+pub mod TurnLaws
+pub mod CycleLaws
+pub mod ReleaseLaws

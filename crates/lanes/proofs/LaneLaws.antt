@@ -1,0 +1,113 @@
+-- What a tick, and the entering of metering, make of one lane.
+use Prim.Native.Nat.{ℕ, zero, suc, _+_, _≤_, _<_, min}
+use mathlib.Core.Path.{_≡_, refl, sym, _∙_}
+use mathlib.Core.Bool.{Bool, true, false, cond, _&&_}
+use mathlib.Core.List.{List}
+use native.Mathlib.Omega.{arith}
+use borrow.Author.Tests.{ltb-true, ltb-false, leb-true, leb-false, eqb-true, eqb-false, lt-ltb, le-ltb, le-leb}
+use lib.Dec.{ltb, leb, eqb}
+use lib.ListN.{getD}
+use Rattle.loops.proofs.AnyLaws.{neither}
+use Rattle.lanes.specs.declared.Timings.{Timings}
+use Rattle.lanes.specs.declared.Lane.{Lane}
+use Rattle.lanes.specs.declared.Lanes.{Lanes}
+use Rattle.lanes.specs.Intervals.{lane, riseOf, passagesOf, greenEnds, greenAt, yellowAt, laneTick}
+use Rattle.lanes.specs.Lanes.{laneOf, lanesOf, laneTickAt, lanesTick, laneEntered, lanesEntered}
+
+-- A true or a false test.
+pub by-test : {A : Type 0} (b : Bool) → (b ≡ true → A) → (b ≡ false → A) → A
+by-test true f g = f refl
+by-test false f g = g refl
+
+pub rise-min : (x : ℕ) → riseOf x ≡ min (x + 1) 720
+unfolding riseOf
+rise-min x = by-test (ltb x 720) (λ e. rw e (omega (arith, ltb-true x 720 e))) (λ e. rw e (omega (arith, ltb-false x 720 e)))
+
+pub passages-most : (count passage : ℕ) → count ≤ 3 → passagesOf count passage ≤ 3
+unfolding passagesOf
+passages-most count passage h =
+    by-test (eqb passage 1)
+    (λ e. by-test (ltb count 3) (λ f. rw (e, f) (omega (arith, ltb-true count 3 f))) (λ f. rw (e, f) h))
+    (λ e. rw e h)
+
+-- A green that goes on is younger than the maximum.
+green-goes-on : (t : Timings) (age passages : ℕ) → greenEnds t age passages ≡ false → age < t .maxgreen
+unfolding greenEnds
+green-goes-on t age passages e = leb-false (t .maxgreen) age (neither (leb (t .mingreen) age && leb (t .vehicles) passages) (leb (t .maxgreen) age) e .1)
+
+-- What a tick makes of a lane, by cases.
+pub tick-cases : (t : Timings) (l : Lane) (passage : ℕ) (P : Lane → Type 0)
+    → (l .colour ≡ 3 → P (lane 2 0 (riseOf (l .counter)) (passagesOf (l .passages) passage)))
+    → (l .colour ≡ 3 → riseOf (l .age) < t .maxgreen → P (lane 3 (riseOf (l .age)) (riseOf (l .counter)) (passagesOf (l .passages) passage)))
+    → (l .colour ≡ 2 → t .yellow ≤ riseOf (l .age) → P (lane 1 0 (riseOf (l .counter)) (l .passages)))
+    → (l .colour ≡ 2 → riseOf (l .age) < t .yellow → P (lane 2 (riseOf (l .age)) (riseOf (l .counter)) (l .passages)))
+    → (eqb (l .colour) 3 ≡ false → eqb (l .colour) 2 ≡ false → P (lane (l .colour) (riseOf (l .age)) (riseOf (l .counter)) (l .passages)))
+    → P (laneTick t l passage)
+unfolding laneTick greenAt yellowAt
+tick-cases t l passage P a b c d e =
+    let age = riseOf (l .age) in
+    let count = passagesOf (l .passages) passage in
+    by-test (eqb (l .colour) 3)
+    (λ h3. by-test (greenEnds t age count)
+    (λ h. rw (h3, h) (a (eqb-true _ _ h3)))
+    (λ h. rw (h3, h) (b (eqb-true _ _ h3) (green-goes-on t age count h))))
+    (λ h3. by-test (eqb (l .colour) 2)
+    (λ h2. by-test (leb (t .yellow) age)
+    (λ h. rw (h3, h2, h) (c (eqb-true _ _ h2) (leb-true _ _ h)))
+    (λ h. rw (h3, h2, h) (d (eqb-true _ _ h2) (leb-false _ _ h))))
+    (λ h2. rw (h3, h2) (e h3 h2)))
+
+pub tick-counter : (t : Timings) (l : Lane) (passage : ℕ) → laneTick t l passage .counter ≡ riseOf (l .counter)
+tick-counter t l passage =
+    tick-cases t l passage (λ m. m .counter ≡ riseOf (l .counter)) (λ _. refl) (λ _ _. refl) (λ _ _. refl) (λ _ _. refl) (λ _ _. refl)
+
+-- One of the four lanes, after the tick and on entering metering.
+pub lane-ticked : (t : Timings) (s : Lanes) (passage : List ℕ) (i : ℕ) → i < 4 → laneOf (lanesTick t s passage) i ≡ laneTickAt t s passage i
+unfolding laneOf lanesOf lanesTick
+lane-ticked t s passage zero h = refl
+lane-ticked t s passage (suc zero) h = refl
+lane-ticked t s passage (suc (suc zero)) h = refl
+lane-ticked t s passage (suc (suc (suc zero))) h = refl
+lane-ticked t s passage (suc (suc (suc (suc i)))) h = absurd (omega arith)
+
+pub lane-entered : (n i : ℕ) → i < 4 → laneOf (lanesEntered n) i ≡ laneEntered n i
+unfolding laneOf lanesOf lanesEntered
+lane-entered n zero h = refl
+lane-entered n (suc zero) h = refl
+lane-entered n (suc (suc zero)) h = refl
+lane-entered n (suc (suc (suc zero))) h = refl
+lane-entered n (suc (suc (suc (suc i)))) h = absurd (omega arith)
+
+module _ (t : Timings) (s : Lanes) (passage : List ℕ) where
+  -- A lane of the site ticks; another stays as it is.
+  pub lane-in : (i : ℕ) → i < 4 → i < t .lanes → laneOf (lanesTick t s passage) i ≡ laneTick t (laneOf s i) (getD passage i 0)
+  unfolding laneTickAt
+  lane-in i h k = lane-ticked t s passage i h ∙ rw (lt-ltb i (t .lanes) k)
+
+  pub lane-out : (i : ℕ) → i < 4 → t .lanes ≤ i → laneOf (lanesTick t s passage) i ≡ laneOf s i
+  unfolding laneTickAt
+  lane-out i h k = lane-ticked t s passage i h ∙ rw (le-ltb i (t .lanes) k)
+
+  pub offset-ticked : lanesTick t s passage .offset ≡ riseOf (s .offset)
+  unfolding lanesTick lanesOf
+  offset-ticked = refl
+
+  pub last-ticked : lanesTick t s passage .last ≡ s .last
+  unfolding lanesTick lanesOf
+  last-ticked = refl
+
+pub entered-in : (n i : ℕ) → i < 4 → i < n → laneOf (lanesEntered n) i ≡ lane 1 0 720 0
+unfolding laneEntered
+entered-in n i h k = lane-entered n i h ∙ rw (lt-ltb i n k)
+
+pub entered-out : (n i : ℕ) → i < 4 → n ≤ i → laneOf (lanesEntered n) i ≡ lane 0 0 0 0
+unfolding laneEntered
+entered-out n i h k = lane-entered n i h ∙ rw (le-ltb i n k)
+
+pub offset-entered : (n : ℕ) → lanesEntered n .offset ≡ 720
+unfolding lanesEntered lanesOf
+offset-entered n = refl
+
+pub last-entered : (n : ℕ) → lanesEntered n .last ≡ n
+unfolding lanesEntered lanesOf
+last-entered n = refl

@@ -1,0 +1,109 @@
+-- What holds of the lanes since power-up, besides their ranges: under mutual exclusion a green lane is the last released one, and the last
+-- released lane's cycle counter equals the offset counter.
+use Prim.Native.Nat.{ℕ, _+_, _-_, _≤_, _<_}
+use mathlib.Core.Path.{_≡_, refl, sym, _∙_, ap}
+use mathlib.Core.Bool.{Bool, true, false, not, true≢false}
+use mathlib.Core.List.{List}
+use native.Mathlib.Omega.{arith}
+use borrow.Author.Tests.{eqb-true, eqb-false, eq-eqb, ne-eqb, not-true}
+use lib.Dec.{eqb}
+use lib.ListN.{getD}
+use Rattle.loops.specs.Any.{anyFrom}
+use Rattle.loops.proofs.AnyLaws.{none-of}
+use Rattle.inputs.specs.declared.Metered.{Metered}
+use Rattle.wanted.specs.declared.wish.Wish.{Wish}
+use Rattle.lanes.specs.declared.Timings.{Timings}
+use Rattle.lanes.specs.declared.Lane.{Lane}
+use Rattle.lanes.specs.declared.Lanes.{Lanes}
+use Rattle.lanes.specs.Intervals.{riseOf, laneTick}
+use Rattle.lanes.specs.Lanes.{laneOf, lanesTick, lanesEntered}
+use Rattle.lanes.proofs.LaneLaws.{by-test, tick-counter, lane-in, offset-ticked, last-ticked, entered-in, offset-entered, last-entered}
+use Rattle.release.specs.Release.{anyGreen, mayRelease, releasedOf, releaseOf}
+use Rattle.release.proofs.ReleaseLaws.{none-released, lane-goes, lane-stays, last-released, offset-released, released-in, may-release}
+use Rattle.group.specs.declared.interval.Times.{Times}
+use Rattle.group.specs.declared.Group.{Group}
+use Rattle.group.specs.Group.{intervalOf, lanesMoved, releasedIn, groupOf, movedWith, movedOf}
+use Rattle.group.proofs.IntervalLaws.{isOwn, lanes-cases}
+use Rattle.group.proofs.RangeLaws.{LanesGood, GroupGood, moved-lanes}
+use Rattle.waiting.proofs.LaneRank.{Sound, was-green}
+
+-- The cycle counter of lane k, from 1.
+abbrev counterOf : Lanes → ℕ → ℕ
+counterOf s k = laneOf s (k - 1) .counter
+
+abbrev counter : Lane → ℕ
+counter l = l .counter
+
+pub record Chain (t : Timings) (s : Lanes) : Type 0 where
+  pub one-green : eqb (t .mode) 1 ≡ false → (i : ℕ) → i < 4 → i < t .lanes → laneOf s i .colour ≡ 3 → i + 1 ≡ s .last
+  pub newest : laneOf s (s .last - 1) .counter ≡ s .offset
+
+module _ (t : Timings) (ok : Sound t) where
+  pub chain-tick : (own : Bool) (s : Lanes) (passage : List ℕ) → LanesGood own s (t .lanes) → Chain t s → Chain t (lanesTick t s passage)
+  chain-tick own s passage v w =
+      let i = s .last - 1 in
+      let at = lane-in t s passage i (omega (arith, v .least, v .most, ok .most)) (omega (arith, v .least, v .most)) in
+      record {
+        one-green = λ m i h k e.
+            w .one-green m i h k (was-green t ok (laneOf s i) (getD passage i 0) (rw (lane-in t s passage i h k) at e))
+            ∙ sym (last-ticked t s passage);
+        newest =
+            ap (counterOf (lanesTick t s passage)) (last-ticked t s passage)
+            ∙ ap counter at
+            ∙ tick-counter t (laneOf s i) (getD passage i 0)
+            ∙ ap riseOf (w .newest)
+            ∙ sym (offset-ticked t s passage);
+      }
+
+  pub chain-enter : Chain t (lanesEntered (t .lanes))
+  chain-enter =
+      let n = t .lanes in
+      record {
+        one-green = λ m i h k e. let z : _≡_ {A = ℕ} 1 3 = rw (entered-in n i h k) at e in absurd (omega arith);
+        newest =
+            ap (counterOf (lanesEntered n)) (last-entered n)
+            ∙ ap counter (entered-in n (n - 1) (omega (arith, ok .least, ok .most)) (omega (arith, ok .least)))
+            ∙ sym (offset-entered n);
+      }
+
+  -- Under mutual exclusion a lane is released where none is green.
+  none-green : (s : Lanes) (cycle : ℕ) → eqb (t .mode) 1 ≡ false → mayRelease t cycle s ≡ true → (i : ℕ) → i < t .lanes → laneOf s i .colour ≡ 3 → ⊥
+  unfolding mayRelease anyGreen
+  none-green s cycle m e i h c =
+      let none = not-true (anyFrom (λ i. eqb (laneOf s i .colour) 3) 0 (t .lanes)) (rw m at e) in
+      true≢false (sym (eq-eqb (laneOf s i .colour) 3 c) ∙ none-of (λ i. eqb (laneOf s i .colour) 3) 0 (t .lanes) none i (omega arith) (omega arith))
+
+  pub chain-release : (s : Lanes) (k cycle : ℕ) → k ≤ t .lanes → (eqb k 0 ≡ false → mayRelease t cycle s ≡ true) → Chain t s → Chain t (releaseOf s k)
+  chain-release s k cycle h may w =
+      by-test (eqb k 0) (λ e. rw (none-released s k e) w)
+      (λ e. record {
+        one-green = λ m i l j c. by-test (eqb k (i + 1))
+            (λ f. sym (eqb-true k (i + 1) f) ∙ sym (last-released s k e))
+            (λ f. absurd (none-green s cycle m (may e) i j (rw (lane-stays s k i l f) at c)));
+        newest = let below : k - 1 < 4 = omega (arith, ok .most, eqb-false k 0 e) in
+            let back : k ≡ k - 1 + 1 = omega (arith, eqb-false k 0 e) in
+            ap (counterOf (releaseOf s k)) (last-released s k e)
+            ∙ ap counter (lane-goes s k (k - 1) below (eq-eqb k (k - 1 + 1) back))
+            ∙ sym (offset-released s k e);
+      })
+
+  chain-released : (s : Lanes) (now cycle : ℕ) (demand : List ℕ) → Chain t s → Chain t (releaseOf s (releasedIn t cycle demand now s))
+  unfolding releasedIn
+  chain-released s now cycle demand w =
+      by-test (eqb now 7)
+      (λ e. rw e (chain-release s (releasedOf t cycle demand s) cycle (released-in t cycle demand s (ok .least)) (may-release t cycle demand s) w))
+      (λ e. rw (e, none-released s 0 refl) w)
+
+  -- A tick of the group keeps it.
+  module _ (times : Times) (wish : Wish) (cycle : ℕ) (samples : Metered) (g : Group) (v : GroupGood g (t .lanes)) (w : Chain t (g .lanes)) where
+    pub chain-lanes : Chain t (lanesMoved times t wish samples g)
+    chain-lanes =
+        lanes-cases times t wish samples g (v .interval) (λ _ s. Chain t s)
+        (λ _ _. chain-tick _ (g .lanes) (samples .passage) (v .lanes) w)
+        (λ _. chain-enter)
+        (λ _. chain-tick _ (g .lanes) (samples .passage) (v .lanes) w)
+        (λ _ _ _ _. w)
+
+    pub chain-moved : Chain t (movedOf times t wish cycle samples g .group .lanes)
+    unfolding movedOf movedWith groupOf
+    chain-moved = chain-released _ _ cycle (samples .demand) chain-lanes

@@ -1,0 +1,4 @@
+pub mod LaneRank
+pub mod Chain
+pub mod Rank
+pub mod GroupRank
