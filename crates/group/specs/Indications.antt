@@ -6,7 +6,7 @@ use lib.ListN.{replicate}
 use Rattle.period.specs.Counting.{four}
 use Rattle.lanes.specs.Lanes.{laneOf}
 use Rattle.group.specs.declared.Group.{Group}
-use Rattle.group.specs.declared.Indications.{Indications}
+use Rattle.group.specs.declared.indication.Indications.{Indications}
 
 -- "Lanes show 0 dark in 0 and 1; 3 green in 2, 3, 4; 2 yellow in 5; 1 red in 6 and 9; their own in 7 and 8."
 unfoldable pub colourShown : ℕ → ℕ → ℕ
