@@ -2,6 +2,9 @@
 ghost use mathlib.Core.Path.{_≡_};
 ghost use Rattle.group.specs.Indications.{colourShown, lowerShown, signShown, laneShown, indicationsOf, allDark};
 use crate::Group;
+use lanes::GREEN;
+use lanes::RED;
+use lanes::YELLOW;
 
 // Each lane's colour, 0 dark, 1 red, 2 yellow, 3 green; its lower green and the warning sign, 0 off,
 // 1 on.
@@ -18,14 +21,14 @@ fn colour_shown(interval: u16, own: u16) -> u16
     match interval {
         0 => 0,
         1 => 0,
-        2 => 3,
-        3 => 3,
-        4 => 3,
-        5 => 2,
-        6 => 1,
+        2 => GREEN,
+        3 => GREEN,
+        4 => GREEN,
+        5 => YELLOW,
+        6 => RED,
         7 => own,
         8 => own,
-        9 => 1,
+        9 => RED,
         _ => 0,
     }
 }
@@ -33,10 +36,10 @@ fn colour_shown(interval: u16, own: u16) -> u16
 fn lower_shown(colour: u16) -> u16
     ensures { λ r. ⌜ r ≡ lowerShown colour ⌝ }
 {
-    if colour == 2 {
+    if colour == YELLOW {
         return 1;
     }
-    if colour == 3 {
+    if colour == GREEN {
         return 1;
     }
     0
@@ -60,7 +63,7 @@ fn lane_shown(g: Group, n: u16, i: u16) -> u16
 }
 
 // The lamps of a group of n lanes.
-pub fn indications(g: Group, n: u16) -> Indications
+pub fn shown(g: Group, n: u16) -> Indications
     ensures { λ r. ⌜ r ≡ indicationsOf g n ⌝ }
 {
     let a = lane_shown(g, n, 0);

@@ -17,13 +17,17 @@ pub struct Times {
     pub shutdown: u16,
 }
 
+// Where the age of an interval stops.
+pub const OLDEST: u16 = 36000;
+
+// In ticks.
 const INITIALIZATION: u16 = 50;
 
 // One tick older, to 36000 at most.
 pub fn older(age: u16) -> u16
     ensures { λ r. ⌜ r ≡ ageOf age ⌝ }
 {
-    if age < 36000 { age + 1 } else { 36000 }
+    if age < OLDEST { age + 1 } else { OLDEST }
 }
 
 // The time that an interval runs at least.

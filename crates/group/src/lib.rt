@@ -8,10 +8,11 @@ ghost use Prim.Native.Nat.{ℕ};
 ghost use Rattle.group.specs.Group.{allRed, intervalOf, lanesIn, releasedIn, groupOf, lanesMoved, movedWith, movedOf};
 pub use indication::Indications;
 pub use indication::all_dark;
-pub use indication::indications;
+pub use indication::shown;
 use inputs::Metered;
 pub use interval::Times;
 use lanes::Lanes;
+use lanes::RED;
 use lanes::Timings;
 pub use range::group_spoilt;
 use wanted::Wish;
@@ -41,7 +42,7 @@ fn all_red(s: Lanes, n: u16) -> bool
     let mut i: u16 = 0;
     while i < n {
         let lane = lanes::lane_at(s, i);
-        if lane.colour != 1 {
+        if lane.colour != RED {
             return false;
         }
         i += 1;
@@ -62,13 +63,13 @@ fn interval_of(times: Times, t: Timings, wish: Wish, g: Group) -> u16
 fn lanes_in(t: Timings, passage: [u16; 4], before: u16, now: u16, s: Lanes) -> Lanes
     ensures { λ r. ⌜ r ≡ lanesIn t passage before now s ⌝ }
 {
-    if now == 7 {
-        if before == 7 {
+    if now == METERING {
+        if before == METERING {
             return lanes::tick(t, s, passage);
         }
         return lanes::entered(t.lanes);
     }
-    if now == 8 {
+    if now == CLOSING {
         return lanes::tick(t, s, passage);
     }
     s
@@ -78,7 +79,7 @@ fn lanes_in(t: Timings, passage: [u16; 4], before: u16, now: u16, s: Lanes) -> L
 fn released_in(t: Timings, cycle: u16, demand: [u16; 4], now: u16, s: Lanes) -> u16
     ensures { λ r. ⌜ r ≡ releasedIn t cycle demand now s ⌝ }
 {
-    if now == 7 {
+    if now == METERING {
         return release::released(t, cycle, demand, s);
     }
     0
@@ -103,7 +104,7 @@ fn group_of(g: Group, now: u16, s: Lanes) -> Group
 }
 
 // The group one tick later, under a wish with its cycle.
-pub fn moved(times: Times, t: Timings, wish: Wish, cycle: u16, samples: Metered, g: Group) -> Moved
+pub fn tick(times: Times, t: Timings, wish: Wish, cycle: u16, samples: Metered, g: Group) -> Moved
     ensures { λ r. ⌜ r ≡ movedOf times t wish cycle samples g ⌝ }
 {
     let now = interval_of(times, t, wish, g);

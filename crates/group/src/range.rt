@@ -1,39 +1,48 @@
 // Whether the group's state is in range.
 ghost use mathlib.Core.Path.{_≡_};
+ghost use mathlib.Core.Bool.{_||_};
+ghost use lib.Dec.{ltb};
 ghost use Rattle.loops.specs.Any.{anyFrom};
 ghost use Rattle.group.specs.Range.{colourSpoilt, laneSpoilt, laneKept, laneSpoiltAt, lanesSpoilt, groupSpoilt};
+use crate::CLOSING;
 use crate::Group;
+use crate::METERING;
+use crate::interval::OLDEST;
+use lanes::GREEN;
+use lanes::LONGEST;
 use lanes::Lane;
 use lanes::Lanes;
+use lanes::RED;
 
+fn no_colour(colour: u16) -> bool
+    ensures { λ r. ⌜ r ≡ (ltb colour 1 || ltb 3 colour) ⌝ }
+{
+    if colour < RED {
+        return true;
+    }
+    GREEN < colour
+}
+
+// A lane is red outside metering and closing.
 fn colour_spoilt(interval: u16, colour: u16) -> bool
     ensures { λ r. ⌜ r ≡ colourSpoilt interval colour ⌝ }
 {
-    if colour == 1 {
-        return false;
+    if interval == METERING {
+        return no_colour(colour);
     }
-    if colour < 1 {
-        return true;
+    if interval == CLOSING {
+        return no_colour(colour);
     }
-    if 3 < colour {
-        return true;
-    }
-    if interval == 7 {
-        return false;
-    }
-    if interval == 8 {
-        return false;
-    }
-    true
+    colour != RED
 }
 
 fn lane_spoilt(interval: u16, l: Lane) -> bool
     ensures { λ r. ⌜ r ≡ laneSpoilt interval l ⌝ }
 {
-    if 720 < l.age {
+    if LONGEST < l.age {
         return true;
     }
-    if 720 < l.counter {
+    if LONGEST < l.counter {
         return true;
     }
     if 3 < l.passages {
@@ -84,7 +93,7 @@ fn any_lane_spoilt(interval: u16, s: Lanes, n: u16) -> bool
 fn lanes_spoilt(interval: u16, s: Lanes, n: u16) -> bool
     ensures { λ r. ⌜ r ≡ lanesSpoilt interval s n ⌝ }
 {
-    if 720 < s.offset {
+    if LONGEST < s.offset {
         return true;
     }
     if s.last < 1 {
@@ -103,7 +112,7 @@ pub fn group_spoilt(g: Group, n: u16) -> bool
     if 9 < g.interval {
         return true;
     }
-    if 36000 < g.age {
+    if OLDEST < g.age {
         return true;
     }
     let s = g.lanes;

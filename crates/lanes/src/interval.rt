@@ -1,14 +1,18 @@
 // One lane's interval: green, yellow, red.
 ghost use mathlib.Core.Path.{_≡_};
 ghost use Rattle.lanes.specs.Intervals.{riseOf, passagesOf, greenEnds, greenAt, yellowAt, laneTick};
+use crate::GREEN;
+use crate::LONGEST;
 use crate::Lane;
+use crate::RED;
 use crate::Timings;
+use crate::YELLOW;
 
 // One more, to 720 at most.
 pub fn rise(x: u16) -> u16
     ensures { λ r. ⌜ r ≡ riseOf x ⌝ }
 {
-    if x < 720 { x + 1 } else { 720 }
+    if x < LONGEST { x + 1 } else { LONGEST }
 }
 
 // The passages of a green with this tick's sample; they stop at 3.
@@ -27,13 +31,13 @@ fn passages_of(count: u16, passage: u16) -> u16
 fn green_ends(t: Timings, age: u16, passages: u16) -> bool
     ensures { λ r. ⌜ r ≡ greenEnds t age passages ⌝ }
 {
-    if t.maxgreen <= age {
+    if age < t.mingreen {
+        return t.maxgreen <= age;
+    }
+    if t.vehicles <= passages {
         return true;
     }
-    if age < t.mingreen {
-        return false;
-    }
-    t.vehicles <= passages
+    t.maxgreen <= age
 }
 
 // A green lane of this age.
@@ -42,14 +46,14 @@ fn green_at(t: Timings, age: u16, counter: u16, passages: u16) -> Lane
 {
     if green_ends(t, age, passages) {
         return Lane {
-            colour: 2,
+            colour: YELLOW,
             age: 0,
             counter,
             passages,
         };
     }
     Lane {
-        colour: 3,
+        colour: GREEN,
         age,
         counter,
         passages,
@@ -62,14 +66,14 @@ fn yellow_at(t: Timings, age: u16, counter: u16, passages: u16) -> Lane
 {
     if t.yellow <= age {
         return Lane {
-            colour: 1,
+            colour: RED,
             age: 0,
             counter,
             passages,
         };
     }
     Lane {
-        colour: 2,
+        colour: YELLOW,
         age,
         counter,
         passages,
@@ -82,10 +86,10 @@ pub fn lane_tick(t: Timings, l: Lane, passage: u16) -> Lane
 {
     let age = rise(l.age);
     let counter = rise(l.counter);
-    if l.colour == 3 {
+    if l.colour == GREEN {
         return green_at(t, age, counter, passages_of(l.passages, passage));
     }
-    if l.colour == 2 {
+    if l.colour == YELLOW {
         return yellow_at(t, age, counter, l.passages);
     }
     Lane {

@@ -6,15 +6,17 @@ ghost use Prim.Native.Nat.{_-_, _≤_};
 ghost use lib.ListN.{getD};
 ghost use Rattle.release.specs.Release.{isReady, readyAt, anyGreen, mayRelease, nextLane, firstAfter, releasedOf, greenIf, releaseOf};
 pub use cycle::cycle_ticks;
+use lanes::GREEN;
 use lanes::Lane;
 use lanes::Lanes;
+use lanes::RED;
 use lanes::Timings;
 
 // Whether a lane is ready: red at least the minimum, in demand, a cycle from its last green's start.
 fn is_ready(t: Timings, cycle: u16, demand: u16, l: Lane) -> bool
     ensures { λ r. ⌜ r ≡ isReady t cycle demand l ⌝ }
 {
-    if l.colour != 1 {
+    if l.colour != RED {
         return false;
     }
     if l.age < t.minred {
@@ -55,7 +57,7 @@ fn any_green(s: Lanes, n: u16) -> bool
     let mut i: u16 = 0;
     while i < n {
         let lane = lanes::lane_at(s, i);
-        if lane.colour == 3 {
+        if lane.colour == GREEN {
             return true;
         }
         i += 1;
@@ -112,7 +114,7 @@ fn green_if(released: u16, k: u16, l: Lane) -> Lane
 {
     if released == k {
         return Lane {
-            colour: 3,
+            colour: GREEN,
             age: 0,
             counter: 0,
             passages: 0,

@@ -1,0 +1,39 @@
+-- The four lanes, and the offset counter.
+use Rattle.lanes.specs.Lanes.{lanesTick}
+use borrow.Author.Needs.{needs}
+use Rattle.lanes.proofs.tick.Statement.{statement}
+use Rattle.lanes.proofs.tick.Tie as tie
+
+tick-at-requires : tie.Need-tick-at-requires
+tick-at-requires c κs = search needs
+
+tick-at-requires-2 : tie.Need-tick-at-requires-2
+tick-at-requires-2 c κs = search needs
+
+tick-at-requires-3 : tie.Need-tick-at-requires-3
+tick-at-requires-3 c κs = search needs
+
+tick-at-requires-4 : tie.Need-tick-at-requires-4
+tick-at-requires-4 c κs = search needs
+
+rise-requires : tie.Need-rise-requires
+rise-requires c κs = search needs
+
+of-lanes-requires : tie.Need-of-lanes-requires
+of-lanes-requires c κs = search needs
+
+returns : tie.Need-returns
+unfolding lanesTick
+returns c = simp (c .of-lanes .ensures, c .before .rise .ensures, c .before .before .tick-at4 .ensures, c .before .before .before .tick-at3 .ensures, c .before .before .before .before .tick-at2 .ensures, c .before .before .before .before .before .tick-at .ensures)
+
+pub tick-spec : {M : Type 1} → statement M
+tick-spec =
+    tie.close
+    (tie.spec
+    tick-at-requires
+    tick-at-requires-2
+    tick-at-requires-3
+    tick-at-requires-4
+    rise-requires
+    of-lanes-requires
+    returns)
