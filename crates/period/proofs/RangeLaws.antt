@@ -15,9 +15,9 @@ use Rattle.inputs.specs.Samples.{meteredSampleOf, laneSampleOf, meteredBad, lan
 use Rattle.period.specs.declared.Counts.{Counts}
 use Rattle.period.specs.declared.LaneCounts.{LaneCounts}
 use Rattle.period.specs.declared.Periods.{Periods}
-use Rattle.period.specs.Counts.{laneOf, noCounts}
+use Rattle.period.specs.Counts.{laneOf, noCounts, noPeriods}
 use Rattle.period.specs.Range.{mostTicks, laneSpoilt, meteredSpoilt, countsSpoilt, lastTicks, periodsSpoilt}
-use Rattle.period.specs.Counting.{laneCounted, laneCountedAt, passagesAt, countedOf, nextSerial, closedOf, afterTick, LaneRoom}
+use Rattle.period.specs.Counting.{laneCounted, laneCountedAt, passagesAt, countedOf, nextSerial, closedOf, afterTick, LaneRoom, greensAt, greenCounted, afterRelease, GreensRoom}
 
 -- A mainline lane's counts in range at so many ticks.
 pub record LaneGood (c : LaneCounts) (t : ℕ) : Type 0 where
@@ -276,3 +276,73 @@ module _ (p : Periods) (lanes : Metered) (main : Mainline) (n m : ℕ) (g : Peri
 
   pub periods-after : PeriodsGood (afterTick p lanes main n m) n m
   periods-after = closes _ refl
+
+-- A release adds one green at one of the site's lanes.
+module _ (c : Counts) (n m t k : ℕ) (g : CountsGood c n m (t + 1)) (few : (i : ℕ) → i < 4 → getD (c .greens) i 0 ≤ mostTicks i n t) (h : k ≤ n) where
+  greens-are : (i : ℕ) → i < 4 → getD (greenCounted c k .greens) i 0 ≡ greensAt c k i
+  unfolding greenCounted
+  greens-are zero l = refl
+  greens-are (suc zero) l = refl
+  greens-are (suc (suc zero)) l = refl
+  greens-are (suc (suc (suc zero))) l = refl
+  greens-are (suc (suc (suc (suc i)))) l = absurd (omega arith)
+
+  greens-in : (i : ℕ) (b : Bool) → eqb k (i + 1) ≡ b → i < 4 → greensAt c k i ≤ mostTicks i n (t + 1)
+  unfolding greensAt
+  greens-in i true e l =
+      let here : i < n = omega (arith, eqb-true k (i + 1) e) in
+      rw e (omega (arith, few i l, most-in i n t here, most-in i n (t + 1) here))
+  greens-in i false e l = rw e (g .greens i l)
+
+  green-good : CountsGood (greenCounted c k) n m (t + 1)
+  unfolding greenCounted
+  green-good = record {
+    passages = g .passages;
+    greens = λ i l. rw (greens-are i l) (greens-in i _ refl l);
+    lanes = g .lanes;
+  }
+
+most-most : (i n t : ℕ) (b : Bool) → ltb i n ≡ b → mostTicks i n t ≤ t
+unfolding mostTicks
+most-most i n t true e = rw e (omega arith)
+most-most i n t false e = rw e (omega arith)
+
+pub greens-room : (c : Counts) (n m t : ℕ) → t ≤ 300 → CountsGood c n m t → GreensRoom c
+greens-room c n m t h g = record { greens = λ i l. omega (arith, g .greens i l, most-most i n t _ refl) }
+
+last-most : (serial : ℕ) (b : Bool) → eqb serial 0 ≡ b → lastTicks serial ≤ 300
+unfolding lastTicks
+last-most serial true e = rw e (omega arith)
+last-most serial false e = rw e (omega arith)
+
+pub periods-room : (p : Periods) (n m : ℕ) → PeriodsGood p n m → GreensRoom (p .current) × GreensRoom (p .last)
+periods-room p n m g =
+    (greens-room (p .current) n m (p .ticks) (omega (arith, g .ticks)) (g .current), greens-room (p .last) n m (lastTicks (p .serial)) (last-most (p .serial) _ refl) (g .last))
+
+-- A tick and its release keep the periods in range.
+module _ (p : Periods) (lanes : Metered) (main : Mainline) (n m k : ℕ) (g : PeriodsGood p n m) (e : samplesBad lanes main n m ≡ false) (h : k ≤ n) where
+  abbrev counted : Counts
+  counted = countedOf (p .current) lanes main n m
+
+  counted-green : CountsGood (greenCounted counted k) n m (p .ticks + 1)
+  unfolding countedOf
+  counted-green = green-good counted n m (p .ticks) k (counts-after lanes main n m e (p .current) (p .ticks) (g .current)) (g .current .greens) h
+
+  release-closes : (a b : Bool) → eqb k 0 ≡ a → ltb (p .ticks) 299 ≡ b → PeriodsGood (afterRelease (afterTick p lanes main n m) k) n m
+  unfolding afterRelease afterTick closedOf
+  release-closes true b ea eb = rw ea (periods-after p lanes main n m g e)
+  release-closes false true ea eb =
+      let l = ltb-true (p .ticks) 299 eb in
+      rw (ea, eb, ne-eqb (p .ticks + 1) 0 (λ z. omega arith)) (record { ticks = omega arith; current = counted-green; last = g .last })
+  release-closes false false ea eb =
+      let l = ltb-false (p .ticks) 299 eb in
+      let t : p .ticks + 1 ≡ 300 = omega (arith, g .ticks) in
+      rw (ea, eb) (record { ticks = omega arith; current = no-counts-good n m 0; last = rw (completed (p .serial), ← t) counted-green })
+
+  pub periods-released : PeriodsGood (afterRelease (afterTick p lanes main n m) k) n m
+  periods-released = release-closes _ _ refl refl
+
+-- No periods are in range.
+pub no-periods-good : (n m : ℕ) → PeriodsGood noPeriods n m
+unfolding noPeriods
+no-periods-good n m = record { ticks = omega arith; current = no-counts-good n m 0; last = no-counts-good n m (lastTicks 0) }

@@ -64,10 +64,37 @@ closedOf p c =
 unfoldable pub afterTick : Periods → Metered → Mainline → ℕ → ℕ → Periods
 afterTick p lanes main n m = closedOf p (countedOf (p .current) lanes main n m)
 
--- What counting asks so that no number of the machine is too small; a lane in range at fewer than 300 ticks has it.
+-- The counts with the green of a lane that was released, from 1; 0 for none.
+unfoldable pub greensAt : Counts → ℕ → ℕ → ℕ
+greensAt c released i = cond (eqb released (i + 1)) (getD (c .greens) i 0 + 1) (getD (c .greens) i 0)
+
+unfoldable pub greenCounted : Counts → ℕ → Counts
+greenCounted c released = record {
+  passages = c .passages;
+  greens = four (greensAt c released);
+  worked = c .worked;
+  vehicles = c .vehicles;
+  occupied = c .occupied;
+  timed = c .timed;
+  speeds = c .speeds;
+}
+
+-- "A green begun at that tick still enters the period just closed": the open period has no tick yet where this one closed it.
+unfoldable pub afterRelease : Periods → ℕ → Periods
+afterRelease p released =
+    cond (eqb released 0) p
+    (cond (eqb (p .ticks) 0)
+    (record { ticks = p .ticks; current = p .current; serial = p .serial; last = greenCounted (p .last) released })
+    (record { ticks = p .ticks; current = greenCounted (p .current) released; serial = p .serial; last = p .last }))
+
+-- What counting asks so that no number of the machine is too small: a lane in range at fewer than 300 ticks has it,
 pub record LaneRoom (c : LaneCounts) (s : LaneSample) : Type 0 where
   pub worked : c .worked < 300
   pub vehicles : c .vehicles < 300
   pub occupied : c .occupied + s .occupied ≤ 30000
   pub timed : c .timed < 300
   pub speeds : c .speeds + s .speed ≤ 75000
+
+-- and so do greens in range.
+pub record GreensRoom (c : Counts) : Type 0 where
+  pub greens : (i : ℕ) → i < 4 → getD (c .greens) i 0 ≤ 300

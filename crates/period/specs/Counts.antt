@@ -5,6 +5,7 @@ use lib.Dec.{eqb}
 use lib.ListN.{getD, replicate}
 use Rattle.period.specs.declared.Counts.{Counts}
 use Rattle.period.specs.declared.LaneCounts.{LaneCounts}
+use Rattle.period.specs.declared.Periods.{Periods}
 
 -- Mainline lane j's counts.
 abbrev pub laneOf : Counts → ℕ → LaneCounts
@@ -26,6 +27,10 @@ noCounts = record {
   timed = replicate 6 0;
   speeds = replicate 6 0;
 }
+
+-- At power-up: "all counts and the serial 0".
+unfoldable pub noPeriods : Periods
+noPeriods = record { ticks = 0; current = noCounts; serial = 0; last = noCounts }
 
 -- "A lane is good if it worked at all 300" ticks of the period.
 unfoldable pub goodOf : LaneCounts → Bool

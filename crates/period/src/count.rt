@@ -4,9 +4,9 @@ ghost use mathlib.Core.Bool.{false};
 ghost use Prim.Native.Nat.{_+_, _≤_, _<_};
 ghost use lib.ListN.{getD};
 ghost use Rattle.inputs.specs.Samples.{laneSampleOf, samplesBad};
-ghost use Rattle.period.specs.Counts.{laneOf, noCounts};
+ghost use Rattle.period.specs.Counts.{laneOf, noCounts, noPeriods};
 ghost use Rattle.period.specs.Range.{periodsSpoilt};
-ghost use Rattle.period.specs.Counting.{LaneRoom, laneCounted, laneCountedAt, passagesAt, countedOf, nextSerial, closedOf, afterTick};
+ghost use Rattle.period.specs.Counting.{LaneRoom, GreensRoom, greensAt, greenCounted, afterRelease, laneCounted, laneCountedAt, passagesAt, countedOf, nextSerial, closedOf, afterTick};
 use crate::Counts;
 use crate::LaneCounts;
 use crate::Periods;
@@ -170,4 +170,81 @@ pub fn after_tick(p: Periods, lanes: Metered, main: Mainline, n: u16, m: u16) ->
     ensures kept { λ r. ⌜ periodsSpoilt r n m ≡ false ⌝ }
 {
     closed(p, counted(p, lanes, main, n, m))
+}
+
+// The greens of lane i, the first being 0, with that of the released lane, from 1.
+fn greens_at(c: Counts, released: u16, i: u16) -> u16
+    requires { ⌜ (i < 4) × GreensRoom c ⌝ }
+    ensures { λ r. ⌜ r ≡ greensAt c released i ⌝ }
+{
+    let k = i as usize;
+    if released == i + 1 {
+        return c.greens[k] + 1;
+    }
+    c.greens[k]
+}
+
+// The counts with the green of the released lane, from 1; 0 for none.
+fn green_counted(c: Counts, released: u16) -> Counts
+    requires { ⌜ GreensRoom c ⌝ }
+    ensures { λ r. ⌜ r ≡ greenCounted c released ⌝ }
+{
+    let passages = c.passages;
+    let worked = c.worked;
+    let vehicles = c.vehicles;
+    let occupied = c.occupied;
+    let timed = c.timed;
+    let speeds = c.speeds;
+    Counts {
+        passages,
+        greens: [
+            greens_at(c, released, 0),
+            greens_at(c, released, 1),
+            greens_at(c, released, 2),
+            greens_at(c, released, 3),
+        ],
+        worked,
+        vehicles,
+        occupied,
+        timed,
+        speeds,
+    }
+}
+
+// The periods after the tick's release of a lane, from 1; 0 for none. The tick is counted already.
+pub fn after_release(p: Periods, released: u16) -> Periods
+    requires { ⌜ GreensRoom (p .current) × GreensRoom (p .last) ⌝ }
+    ensures { λ r. ⌜ r ≡ afterRelease p released ⌝ }
+{
+    if released == 0 {
+        return p;
+    }
+    let current = p.current;
+    let last = p.last;
+    if p.ticks == 0 {
+        return Periods {
+            ticks: p.ticks,
+            current,
+            serial: p.serial,
+            last: green_counted(last, released),
+        };
+    }
+    Periods {
+        ticks: p.ticks,
+        current: green_counted(current, released),
+        serial: p.serial,
+        last,
+    }
+}
+
+// No period, and no tick.
+pub fn no_periods() -> Periods
+    ensures { λ r. ⌜ r ≡ noPeriods ⌝ }
+{
+    Periods {
+        ticks: 0,
+        current: no_counts(),
+        serial: 0,
+        last: no_counts(),
+    }
 }

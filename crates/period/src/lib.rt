@@ -4,7 +4,9 @@ mod range;
 
 ghost use mathlib.Core.Path.{_≡_};
 ghost use Rattle.period.specs.Counts.{laneOf};
+pub use count::after_release;
 pub use count::after_tick;
+pub use count::no_periods;
 pub use range::periods_spoilt;
 
 // The counts of one period.

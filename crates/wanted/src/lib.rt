@@ -101,7 +101,7 @@ fn refusal_of(site: Site, clock: Clock, manual: Command, centre: Command, p: Per
     0
 }
 
-fn no_decision() -> Decision
+pub fn no_decision() -> Decision
     ensures { λ r. ⌜ r ≡ noDecision ⌝ }
 {
     Decision {

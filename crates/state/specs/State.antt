@@ -1,0 +1,35 @@
+-- Document 01, 'A state is spoilt if', 'Group intervals', 'Refusals': the controller's state.
+use Prim.Native.Nat.{ℕ}
+use mathlib.Core.Bool.{Bool, _||_}
+use lib.ListN.{replicate}
+use Rattle.lanes.specs.Lanes.{lanesEntered}
+use Rattle.group.specs.Range.{groupSpoilt}
+use Rattle.period.specs.Range.{periodsSpoilt}
+use Rattle.period.specs.Counts.{noPeriods}
+use Rattle.state.specs.declared.State.{State}
+
+-- 13, at a site of n metered and m mainline lanes.
+unfoldable pub stateSpoilt : State → ℕ → ℕ → Bool
+stateSpoilt s n m = groupSpoilt (s .group) n || periodsSpoilt (s .periods) n m
+
+-- "Power-up begins 0 at age 0, lanes as on entering 7, all counts and the serial 0."
+unfoldable pub freshState : ℕ → State
+freshState n = record { group = record { interval = 0; age = 0; lanes = lanesEntered n }; periods = noPeriods }
+
+-- "Refused, it gives an all-zero state."
+unfoldable pub zeroState : State
+zeroState = record {
+  group = record {
+    interval = 0;
+    age = 0;
+    lanes = record {
+      colours = replicate 4 0;
+      ages = replicate 4 0;
+      counters = replicate 4 0;
+      passages = replicate 4 0;
+      offset = 0;
+      last = 0;
+    };
+  };
+  periods = noPeriods;
+}

@@ -1,0 +1,27 @@
+-- Document 01, 'Refusals': "Power-up checks 14." "A tick checks 14, 13, 8, 9, 10." 0 is no refusal.
+use Prim.Native.Nat.{ℕ}
+use mathlib.Core.Bool.{cond}
+use Rattle.site.specs.declared.Site.{Site}
+use Rattle.site.specs.Record.{meteredLanes, mainlineLanes, spoiltSite}
+use Rattle.calendar.specs.declared.clock.Clock.{Clock}
+use Rattle.calendar.specs.Clock.{clockBad}
+use Rattle.inputs.specs.declared.Command.{Command}
+use Rattle.inputs.specs.Samples.{samplesBad}
+use Rattle.inputs.specs.Commands.{commandsBad}
+use Rattle.state.specs.declared.State.{State}
+use Rattle.state.specs.State.{stateSpoilt}
+use Rattle.tick.specs.declared.Input.{Input}
+
+-- 14, 13: the checks of site and state.
+unfoldable pub stateRefusal : Site → State → ℕ
+stateRefusal x s = cond (spoiltSite x) 14 (cond (stateSpoilt s (meteredLanes x) (mainlineLanes x)) 13 0)
+
+-- 8, 9, 10: the checks of one tick's input.
+unfoldable pub inputRefusal : Site → Input → ℕ
+inputRefusal x i =
+    cond (clockBad (i .clock)) 8
+    (cond (samplesBad (i .lanes) (i .main) (meteredLanes x) (mainlineLanes x)) 9 (cond (commandsBad (i .manual) (i .centre)) 10 0))
+
+unfoldable pub tickRefusal : Site → State → Input → ℕ
+tickRefusal x s i =
+    cond (spoiltSite x) 14 (cond (stateSpoilt s (meteredLanes x) (mainlineLanes x)) 13 (inputRefusal x i))

@@ -1,0 +1,4 @@
+pub mod Timings
+pub mod Checks
+pub mod Tick
+pub mod Waiting

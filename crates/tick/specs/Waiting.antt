@@ -1,0 +1,89 @@
+-- Demand 3: "A waiting metered lane is never passed over for long." One claim about the whole list of ticks since power-up. All of it is what
+-- the rules give from the sites and inputs handed in; the calls promise that what they return is that.
+use Prim.Native.Nat.{ℕ, zero, suc, _+_, _-_, _≤_}
+use mathlib.Core.Path.{_≡_}
+use mathlib.Core.Bool.{Bool, true, false, cond, _&&_, _||_}
+use mathlib.Core.List.{List, [], _∷_, _++_}
+use lib.Dec.{eqb}
+use lib.ListN.{getD}
+use Rattle.site.specs.declared.Site.{Site}
+use Rattle.site.specs.Record.{meteredLanes, spoiltSite}
+use Rattle.group.specs.declared.indication.Indications.{Indications}
+use Rattle.group.specs.Indications.{allDark}
+use Rattle.state.specs.declared.State.{State}
+use Rattle.waiting.specs.Bound.{waitingBound}
+use Rattle.tick.specs.declared.Input.{Input}
+use Rattle.tick.specs.declared.Ticked.{Ticked}
+use Rattle.tick.specs.Timings.{timingsOf}
+use Rattle.tick.specs.Tick.{powerUpOf, tickOf}
+
+-- A tick as it is handed in, with any site and input.
+pub record Call : Type 0 where
+  pub site : Site
+  pub input : Input
+
+-- What a list of ticks has come to: the state, and the indications of the last accepted tick; before one there are none, all dark.
+pub record Course : Type 0 where
+  pub state : State
+  pub shown : Indications
+
+unfoldable pub atPowerUp : Site → Course
+atPowerUp x = record { state = powerUpOf x .state; shown = allDark }
+
+-- "Each tick is given the state that power-up or the tick before returned."
+unfoldable pub answerTo : Course → Call → Ticked
+answerTo c call = tickOf (call .site) (c .state) (call .input)
+
+unfoldable pub isAccepted : Course → Call → Bool
+isAccepted c call = eqb (answerTo c call .refusal) 0
+
+unfoldable pub onward : Course → Call → Course
+onward c call = record { state = answerTo c call .state; shown = cond (isAccepted c call) (answerTo c call .shown) (c .shown) }
+
+abbrev pub courseAfter : Course → List Call → Course
+courseAfter c [] = c
+courseAfter c (call ∷ calls) = courseAfter (onward c call) calls
+
+-- Something holds at each accepted tick of a list.
+abbrev pub AtAccepted : (Course → Call → Type 0) → Course → List Call → Type 0
+AtAccepted P c [] = Unit {0}
+AtAccepted P c (call ∷ calls) = (isAccepted c call ≡ true → P c call) × AtAccepted P (onward c call) calls
+
+-- How many ticks of a list are accepted.
+abbrev pub acceptedTicks : Course → List Call → ℕ
+acceptedTicks c [] = 0
+acceptedTicks c (call ∷ calls) = cond (isAccepted c call) 1 0 + acceptedTicks (onward c call) calls
+
+-- Lane i, from 1, waits at a tick: "the lane's demand is on, the group, the tick done, is in metering, and no cycle in force exceeds C".
+pub record Waits (i most : ℕ) (c : Course) (call : Call) : Type 0 where
+  pub demand : getD (call .input .lanes .demand) (i - 1) 0 ≡ 1
+  pub metering : answerTo c call .state .group .interval ≡ 7
+  pub cycle : answerTo c call .cycle ≤ most
+
+-- A metering green of lane i begins at this tick: the tick releases the lane, the indications returned show it green, and those of the
+-- accepted tick before show it red.
+unfoldable pub greenBegins : ℕ → Course → Call → Bool
+greenBegins i c call =
+    eqb (answerTo c call .released) i
+    && (eqb (getD (answerTo c call .shown .colours) (i - 1) 0) 3 && eqb (getD (c .shown .colours) (i - 1) 0) 1)
+
+-- It begins at one of the first k accepted ticks of a list.
+abbrev pub beginsWithin : ℕ → ℕ → Course → List Call → Bool
+beginsWithin i k c [] = false
+beginsWithin i zero c (call ∷ calls) = false
+beginsWithin i (suc k) c (call ∷ calls) =
+    cond (isAccepted c call) (greenBegins i c call || beginsWithin i k (onward c call) calls) (beginsWithin i (suc k) (onward c call) calls)
+
+-- "Take every list of ticks, refused ones included, from an accepted power-up: .. each accepted one also the power-up's site .. Take every
+-- lane, every whole number C and every run of consecutive accepted ticks in the list, refused ones between them not counted, that has at
+-- least as many ticks as the bound and at each of which" the lane waits. "Then a metering green of that lane begins at one of the run's
+-- first" ticks, as many as the bound.
+unfoldable pub WaitingBound : Site → Type 0
+WaitingBound x =
+    spoiltSite x ≡ false
+    → (before run : List Call)
+    → AtAccepted (λ c call. call .site ≡ x) (atPowerUp x) (before ++ run)
+    → (i most : ℕ) → 1 ≤ i → i ≤ meteredLanes x
+    → AtAccepted (Waits i most) (courseAfter (atPowerUp x) before) run
+    → waitingBound (timingsOf x) most ≤ acceptedTicks (courseAfter (atPowerUp x) before) run
+    → beginsWithin i (waitingBound (timingsOf x) most) (courseAfter (atPowerUp x) before) run ≡ true
