@@ -1,7 +1,7 @@
 -- Document 01, 'Group intervals': what the lamps show. 0 dark, 1 red, 2 yellow, 3 green; 0 off, 1 on. Lanes are counted from 0.
 use Prim.Native.Nat.{ℕ}
 use mathlib.Core.Bool.{cond, _||_}
-use lib.Dec.{ltb, leb, eqb}
+use lib.Dec.{ltb, eqb}
 use lib.ListN.{replicate}
 use Rattle.period.specs.Counting.{four}
 use Rattle.lanes.specs.Lanes.{laneOf}

@@ -4,8 +4,7 @@ mod interval;
 mod range;
 
 ghost use mathlib.Core.Path.{_≡_};
-ghost use Prim.Native.Nat.{ℕ};
-ghost use Rattle.group.specs.Group.{allRed, intervalOf, lanesIn, releasedIn, groupOf, lanesMoved, movedWith, movedOf};
+ghost use Rattle.group.specs.Group.{allRed, intervalOf, lanesIn, releasedIn, groupOf, movedOf};
 pub use indication::Indications;
 pub use indication::all_dark;
 pub use indication::shown;

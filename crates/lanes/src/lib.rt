@@ -2,7 +2,6 @@
 mod interval;
 
 ghost use mathlib.Core.Path.{_≡_};
-ghost use lib.ListN.{getD};
 ghost use Rattle.lanes.specs.Lanes.{laneOf, lanesOf, laneTickAt, lanesTick, laneEntered, lanesEntered};
 
 // A lane's colours; a lane that the site lacks has none.

@@ -2,7 +2,7 @@
 mod cycle;
 
 ghost use mathlib.Core.Path.{_≡_};
-ghost use Prim.Native.Nat.{_-_, _≤_};
+ghost use Prim.Native.Nat.{_≤_};
 ghost use lib.ListN.{getD};
 ghost use Rattle.release.specs.Release.{isReady, readyAt, anyGreen, mayRelease, nextLane, firstAfter, releasedOf, greenIf, releaseOf};
 pub use cycle::cycle_ticks;

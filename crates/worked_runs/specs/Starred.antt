@@ -17,7 +17,7 @@ use Rattle.period.specs.Counts.{goodOf}
 use Rattle.levels.specs.declared.Level.{Level}
 use Rattle.levels.specs.Measures.{withLane, totalsOf, measuresOf}
 use Rattle.levels.specs.Levels.{reachesOf, isSlow, isMet}
-use Rattle.release.specs.Cycle.{cycleTicks}
+use Rattle.release.specs.Cycle.{roundedUp, cycleTicks}
 use Rattle.worked_runs.specs.SiteA.{siteA}
 
 abbrev pub date : ℕ → ℕ → ℕ → Date
@@ -61,7 +61,7 @@ pub record Starred : Type 0 where
   pub one-byte-more : readOf (bytesOf siteA ++ (0 ∷ [])) ≡ refused 7 38
 
 pub starred : Starred
-unfolding cycleTicks dayTypeOf isDate isWithinDates daysBefore monthLength dayNumber weekdayOf inMonth todayOf monthBefore yesterdayOf isFloating isFixed isNamed measuresOf totalsOf withLane goodOf isMet reachesOf isSlow wordsOf readOf sectionOf isGood rangeOf timingRange isWithin
+unfolding cycleTicks roundedUp dayTypeOf isDate isWithinDates daysBefore monthLength dayNumber weekdayOf inMonth todayOf monthBefore yesterdayOf isFloating isFixed isNamed measuresOf totalsOf withLane goodOf isMet reachesOf isSlow wordsOf readOf sectionOf isGood rangeOf timingRange isWithin
 starred = record {
   cycle-600 = refl;
   cycle-700 = refl;
