@@ -5,4 +5,6 @@ pub mod ReadLaws
 pub mod RoundTrip
 pub mod WriteLaws
 pub mod Longest
+pub mod RangeLaws
 pub mod TimingLaws
+pub mod RowLaws
