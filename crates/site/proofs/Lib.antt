@@ -5,6 +5,5 @@ pub mod ReadLaws
 pub mod RoundTrip
 pub mod WriteLaws
 pub mod Longest
-pub mod RangeLaws
 pub mod TimingLaws
 pub mod RowLaws

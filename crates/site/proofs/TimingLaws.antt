@@ -9,11 +9,11 @@ use Rattle.ranges.specs.declared.range.Range.{Range}
 use Rattle.ranges.specs.declared.Section.the-variants.{Timings}
 use Rattle.ranges.specs.Ranges.{isWithin, timingRange}
 use Rattle.ranges.specs.Sections.{rangeOf, mayBeUnused}
+use Rattle.ranges.proofs.RangeLaws.{ends}
 use Rattle.site.specs.declared.Site.{Site}
 use Rattle.site.specs.Record.{spoiltSite}
 use Rattle.site.proofs.Sizes.{Sized}
-use Rattle.site.proofs.SpoiltLaws.{sound-site}
-use Rattle.site.proofs.RangeLaws.{number-within, ends}
+use Rattle.site.proofs.SpoiltLaws.{sound-site, number-within}
 
 -- Maximum green, timing 4, is no shorter than minimum green, timing 3.
 pub record TimingsGood (x : Site) : Type 0 where
