@@ -5,7 +5,6 @@ use mathlib.Core.Bool.{true, false}
 use native.Mathlib.Omega.{arith}
 use lib.ListN.{getD, take}
 use lib.Seq.{take-all}
-use Rattle.ranges.specs.declared.range.Range.{Range}
 use Rattle.ranges.specs.declared.Section.the-variants.{Timings}
 use Rattle.ranges.specs.Ranges.{isWithin, timingRange}
 use Rattle.ranges.specs.Sections.{rangeOf, mayBeUnused}

@@ -1,5 +1,5 @@
 -- Metering is wanted only at a rate from 150 to 1800: the rates of commands, of plan entries and of levels all are in that range.
-use Prim.Native.Nat.{ℕ, _+_, _-_, _*_, _≤_, _<_}
+use Prim.Native.Nat.{ℕ, _+_, _-_, _≤_}
 use mathlib.Core.Path.{_≡_, refl}
 use mathlib.Core.Bool.{Bool, true, false, cond}
 use native.Mathlib.Omega.{arith}
@@ -48,6 +48,10 @@ one-of P false x y f g = g refl
 abbrev CommandGood : Command → Type 0
 CommandGood c = 3 ≤ c .kind → (150 ≤ c .rate) × (c .rate ≤ 1800)
 
+-- A choice is good if its wish is.
+abbrev ChoiceGood : Choice → Type 0
+ChoiceGood c = WishGood (c .wish)
+
 -- Modes 2 and 3 are kinds 3 and 4.
 mode-of : (mode : ℕ) → 3 ≤ kindOf mode → 2 ≤ mode
 unfolding kindOf
@@ -62,10 +66,6 @@ module _ (x : Site) (sized : Sized x) (ok : spoiltSite x ≡ false) where
       (record { kind = kindOf (row .mode); rate = row .rate; table = row .table })
       (λ e h. absurd (omega arith))
       (λ e h. entry-rate-ends x sized ok (place - 1) (omega (arith, eqb-false place 0 e)) (mode-of (row .mode) h))
-
-  -- A choice is good if its wish is.
-  abbrev ChoiceGood : Choice → Type 0
-  ChoiceGood c = WishGood (c .wish)
 
   level-good : (place : ℕ) → place ≤ x .levels → ChoiceGood (levelChoice (x .tables) place)
   unfolding levelChoice
@@ -107,6 +107,6 @@ module _ (x : Site) (sized : Sized x) (ok : spoiltSite x ≡ false) where
       choice-good (mainlineLanes x) p (commandInForce x clock manual centre)
       (one-of CommandGood (eqb (manual .kind) 0) (cond (eqb (centre .kind) 0) planned centre) manual
       (λ _. one-of CommandGood (eqb (centre .kind) 0) planned centre
-      (λ _. planned-good (entryInForce x clock) (in-force-in (x .plan) (x .entries) (dayOf x clock) (_)))
+      (λ _. planned-good (entryInForce x clock) (in-force-in (x .plan) (x .entries) (dayOf x clock) _))
       (λ _. command-rate centre (both .1)))
       (λ _. command-rate manual (both .0)))
