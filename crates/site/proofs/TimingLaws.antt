@@ -32,7 +32,7 @@ module _ (x : Site) (sized : Sized x) (ok : spoiltSite x ≡ false) where
   abbrev timing : ℕ → ℕ
   timing i = getD (x .timings) i 0
 
-  pub timing-within : (i : ℕ) → i < 15 → isWithin (timingRange (timing 3) i) (timing i) ≡ true
+  pub timing-within : (i : ℕ) → i < 15 → isWithin (timingRange (getD (x .timings) 3 0) i) (getD (x .timings) i 0) ≡ true
   unfolding rangeOf mayBeUnused
   timing-within i h =
       let whole : take 15 (x .timings) ≡ x .timings = take-all 15 (x .timings) (omega (arith, sized .timings)) in
