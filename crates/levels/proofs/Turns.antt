@@ -1,7 +1,7 @@
 -- The searches through lanes and levels, a turn at a time.
-use Prim.Native.Nat.{ℕ, suc, _+_, _-_, _*_, _<_, _≤_}
+use Prim.Native.Nat.{ℕ, zero, suc, _+_, _-_, _*_, _<_, _≤_}
 use mathlib.Core.Path.{_≡_, ap}
-use mathlib.Core.Bool.{cond}
+use mathlib.Core.Bool.{Bool, true, false, cond}
 use mathlib.Core.List.{List}
 use native.Mathlib.Omega.{arith}
 use Rattle.period.specs.declared.Counts.{Counts}
@@ -9,7 +9,7 @@ use Rattle.period.specs.Counts.{laneOf}
 use Rattle.levels.specs.declared.measure.Totals.{Totals}
 use Rattle.levels.specs.declared.measure.Measures.{Measures}
 use Rattle.levels.specs.Measures.{withLane, totalsFrom}
-use Rattle.levels.specs.Levels.{levelOf, decides, decidingFrom}
+use Rattle.levels.specs.Levels.{levelOf, decides, decidingFrom, decidingOf}
 use Rattle.levels.specs.Room.{Small, Grown}
 
 pub totals-turn : (c : Counts) (m : ℕ) (t : Totals) (j : ℕ) → j < 6
@@ -44,3 +44,17 @@ module _ (rows : List ℕ) (table : ℕ) (q : Measures) where
 
   pub levels-end : (best i n : ℕ) → n ≤ i → decidingFrom rows table q best i (n - i) ≡ best
   levels-end best i n h = let e : n - i ≡ 0 = omega arith in rw e
+
+  either-in : (b : Bool) (x y most : ℕ) → x ≤ most → y ≤ most → cond b x y ≤ most
+  either-in true x y most h k = h
+  either-in false x y most h k = k
+
+  found-in : (n best i : ℕ) → best ≤ i → decidingFrom rows table q best i n ≤ i + n
+  found-in zero best i h = omega arith
+  found-in (suc n) best i h =
+      omega (arith, found-in n (cond (decides (levelOf rows i) table q) (i + 1) best) (i + 1) (either-in (decides (levelOf rows i) table q) (i + 1) best (i + 1) (omega arith) (omega arith)))
+
+  -- The level that decides is one of the site's.
+  pub deciding-in : (count : ℕ) → decidingOf rows count table q ≤ count
+  unfolding decidingOf
+  deciding-in count = omega (arith, found-in count 0 0 (omega arith))

@@ -107,3 +107,15 @@ is-in-force rows count day minute =
       no-start = λ z. refl;
       its-start = λ k q. absurd (omega arith);
     }))
+
+-- The entry in force is one of the plan's.
+found-in : (rows : List ℕ) (day minute n i best start : ℕ) (b : Bool) → isLater (entryOf rows i) day minute start ≡ b → best ≤ i
+    → inForceFrom rows day minute best start i n ≤ i + n
+found-in rows day minute zero i best start b e h = omega arith
+found-in rows day minute (suc n) i best start true e h =
+    rw e (omega (arith, found-in rows day minute n (i + 1) (i + 1) (entryOf rows i .start) _ refl (omega arith)))
+found-in rows day minute (suc n) i best start false e h = rw e (omega (arith, found-in rows day minute n (i + 1) best start _ refl (omega arith)))
+
+pub in-force-in : (rows : List ℕ) (count day minute : ℕ) → inForceOf rows count day minute ≤ count
+unfolding inForceOf
+in-force-in rows count day minute = omega (arith, found-in rows day minute count 0 0 0 _ refl (omega arith))

@@ -6,3 +6,4 @@ pub mod RoundTrip
 pub mod WriteLaws
 pub mod Longest
 pub mod TimingLaws
+pub mod RowLaws

@@ -3,12 +3,16 @@ use Prim.Native.Nat.{ℕ, _≤_, _<_}
 use mathlib.Core.Path.{_≡_}
 use mathlib.Core.Bool.{true, false, not}
 use mathlib.Core.List.{List}
+use native.Mathlib.Omega.{arith}
 use borrow.Author.Tests.{lt-ltb, le-ltb, ltb-false, not-false}
-use lib.ListN.{length, take, drop}
+use lib.ListN.{length, getD, take, drop}
+use lib.Seq.{getD-take}
 use Rattle.loops.proofs.AnyLaws.{neither}
 use Rattle.ranges.specs.declared.Section.{Section}
 use Rattle.ranges.specs.declared.Section.the-variants.{Timings, Entries, Holidays, Levels}
-use Rattle.ranges.specs.Sections.{allowedOf, sizeOf, firstBad, zeros}
+use Rattle.ranges.specs.Ranges.{isWithin}
+use Rattle.ranges.specs.Sections.{allowedOf, sizeOf, rangeOf, mayBeUnused, firstBad, zeros}
+use Rattle.ranges.proofs.RangeLaws.{within-before}
 use Rattle.site.specs.declared.Site.{Site}
 use Rattle.site.specs.Record.{spoiltOf, spoiltSite}
 
@@ -42,6 +46,12 @@ sound k n v z =
       in-range = ltb-false (firstBad k (take (sizeOf k n) v) 0 (length (take (sizeOf k n) v))) (sizeOf k n) (q .0);
       rest = not-false _ (q .1);
     }
+
+pub number-within : (k : Section) (n : ℕ) (v : List ℕ) → Sound k n v → (j : ℕ) → j < sizeOf k n → mayBeUnused k j ≡ false
+    → isWithin (rangeOf k (take (sizeOf k n) v) j) (getD v j 0) ≡ true
+number-within k n v s j h u =
+    let rows = take (sizeOf k n) v in
+    rw (getD-take (sizeOf k n) v j 0 h) at (within-before k rows (length rows) j (omega (arith, s .in-range)) u)
 
 -- What a record that is not spoilt tells of its four sections.
 pub record SoundSite (x : Site) : Type 0 where

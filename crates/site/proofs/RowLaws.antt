@@ -1,0 +1,36 @@
+-- What a record that is not spoilt tells of its rows: the rates of entries and levels are in their ranges.
+use Prim.Native.Nat.{ℕ, _+_, _-_, _*_, _%_, _≤_, _<_}
+use mathlib.Core.Path.{_≡_, refl}
+use mathlib.Core.Bool.{true, false}
+use native.Mathlib.Omega.{arith}
+use lib.ListN.{getD}
+use lib.Seq.{getD-take}
+use Rattle.ranges.specs.declared.Section.the-variants.{Entries, Levels}
+use Rattle.ranges.specs.Ranges.{between, isWithin, rateRange, entryRange, levelRange}
+use Rattle.ranges.specs.Sections.{rangeOf, mayBeUnused}
+use Rattle.ranges.proofs.RangeLaws.{ends, rate-ends}
+use Rattle.site.specs.declared.Site.{Site}
+use Rattle.site.specs.Record.{spoiltSite}
+use Rattle.site.proofs.Sizes.{Sized}
+use Rattle.site.proofs.SpoiltLaws.{sound-site, number-within}
+
+module _ (x : Site) (sized : Sized x) (ok : spoiltSite x ≡ false) where
+  pub entry-rate : (i : ℕ) → i < x .entries → isWithin (rateRange (getD (x .plan) (i * 5 + 2) 0)) (getD (x .plan) (i * 5 + 3) 0) ≡ true
+  unfolding rangeOf mayBeUnused entryRange
+  entry-rate i h =
+      let column : (i * 5 + 3) % 5 ≡ 3 = omega arith in
+      let mode : i * 5 + 3 - 3 + 2 ≡ i * 5 + 2 = omega arith in
+      rw (column, mode, getD-take (x .entries * 5) (x .plan) (i * 5 + 2) 0 (omega arith)) at
+      (number-within Entries (x .entries) (x .plan) (sound-site x ok .plan) (i * 5 + 3) (omega arith) refl)
+
+  -- In modes 2 and 3 that is a rate to meter at.
+  pub entry-rate-ends : (i : ℕ) → i < x .entries → 2 ≤ getD (x .plan) (i * 5 + 2) 0
+      → (150 ≤ getD (x .plan) (i * 5 + 3) 0) × (getD (x .plan) (i * 5 + 3) 0 ≤ 1800)
+  entry-rate-ends i h m = rate-ends (getD (x .plan) (i * 5 + 2) 0) (getD (x .plan) (i * 5 + 3) 0) m (entry-rate i h)
+
+  pub level-rate : (i : ℕ) → i < x .levels → (150 ≤ getD (x .tables) (i * 5 + 4) 0) × (getD (x .tables) (i * 5 + 4) 0 ≤ 1800)
+  unfolding rangeOf mayBeUnused levelRange isWithin
+  level-rate i h =
+      let column : (i * 5 + 4) % 5 ≡ 4 = omega arith in
+      ends (between 150 1800) (getD (x .tables) (i * 5 + 4) 0)
+      (rw column at (number-within Levels (x .levels) (x .tables) (sound-site x ok .tables) (i * 5 + 4) (omega arith) (rw column)))

@@ -1,0 +1,112 @@
+-- Metering is wanted only at a rate from 150 to 1800: the rates of commands, of plan entries and of levels all are in that range.
+use Prim.Native.Nat.{ℕ, _+_, _-_, _≤_}
+use mathlib.Core.Path.{_≡_, refl}
+use mathlib.Core.Bool.{Bool, true, false, cond}
+use native.Mathlib.Omega.{arith}
+use borrow.Author.Tests.{ltb-false, eqb-true, eqb-false}
+use lib.Dec.{ltb, eqb}
+use Rattle.loops.proofs.AnyLaws.{neither}
+use Rattle.site.specs.declared.Site.{Site}
+use Rattle.site.specs.Record.{spoiltSite, mainlineLanes}
+use Rattle.site.proofs.Sizes.{Sized}
+use Rattle.site.proofs.RowLaws.{entry-rate-ends, level-rate}
+use Rattle.calendar.specs.declared.clock.Clock.{Clock}
+use Rattle.inputs.specs.declared.Command.{Command}
+use Rattle.inputs.specs.Commands.{commandBad, commandsBad}
+use Rattle.inputs.proofs.CommandLaws.{command-rate}
+use Rattle.plan.specs.Entry.{entryOf}
+use Rattle.plan.proofs.InForceLaws.{in-force-in}
+use Rattle.period.specs.declared.Periods.{Periods}
+use Rattle.levels.specs.declared.measure.Totals.{Totals}
+use Rattle.levels.specs.Measures.{totalsOf, measuresOf}
+use Rattle.levels.specs.Levels.{levelOf, decidingOf}
+use Rattle.levels.proofs.Turns.{deciding-in}
+use Rattle.wanted.specs.declared.wish.Wish.{Wish}
+use Rattle.wanted.specs.declared.wish.Wish.the-variants.{Dark, Green, Metering, Clear}
+use Rattle.wanted.specs.declared.wish.Choice.{Choice}
+use Rattle.wanted.specs.Wish.{rateOf, kindOf, plannedOf, rulingOf, levelChoice, measuredChoice, responsiveChoice, choiceOf, choice}
+use Rattle.wanted.specs.Decision.{dayOf, entryInForce, commandInForce, decisionOf}
+
+abbrev pub WishGood : Wish → Type 0
+WishGood Dark = Unit {0}
+WishGood Green = Unit {0}
+WishGood (Metering rate) = (150 ≤ rate) × (rate ≤ 1800)
+WishGood Clear = Unit {0}
+
+-- What holds of no rate and of every rate from 150 on holds of a good wish's rate.
+pub rate-cases : (w : Wish) (P : ℕ → Type 0) → WishGood w → P 0 → ((r : ℕ) → 150 ≤ r → P r) → P (rateOf w)
+rate-cases Dark P g z f = z
+rate-cases Green P g z f = z
+rate-cases (Metering rate) P g z f = f rate (g .0)
+rate-cases Clear P g z f = z
+
+one-of : {A : Type 0} (P : A → Type 0) (b : Bool) (x y : A) → (b ≡ true → P x) → (b ≡ false → P y) → P (cond b x y)
+one-of P true x y f g = f refl
+one-of P false x y f g = g refl
+
+-- A command that can give metering has a rate in range.
+abbrev CommandGood : Command → Type 0
+CommandGood c = 3 ≤ c .kind → (150 ≤ c .rate) × (c .rate ≤ 1800)
+
+-- A choice is good if its wish is.
+abbrev ChoiceGood : Choice → Type 0
+ChoiceGood c = WishGood (c .wish)
+
+-- Modes 2 and 3 are kinds 3 and 4.
+mode-of : (mode : ℕ) → 3 ≤ kindOf mode → 2 ≤ mode
+unfolding kindOf
+mode-of mode = one-of (λ (k : ℕ). 3 ≤ k → 2 ≤ mode) (ltb mode 3) (mode + 1) 4 (λ e h. omega arith) (λ e h. omega (arith, ltb-false mode 3 e))
+
+module _ (x : Site) (sized : Sized x) (ok : spoiltSite x ≡ false) where
+  planned-good : (place : ℕ) → place ≤ x .entries → CommandGood (plannedOf (x .plan) place)
+  unfolding plannedOf
+  planned-good place l =
+      let row = entryOf (x .plan) (place - 1) in
+      one-of CommandGood (eqb place 0) (record { kind = 1; rate = 0; table = 0 })
+      (record { kind = kindOf (row .mode); rate = row .rate; table = row .table })
+      (λ e h. absurd (omega arith))
+      (λ e h. entry-rate-ends x sized ok (place - 1) (omega (arith, eqb-false place 0 e)) (mode-of (row .mode) h))
+
+  level-good : (place : ℕ) → place ≤ x .levels → ChoiceGood (levelChoice (x .tables) place)
+  unfolding levelChoice
+  level-good place l =
+      one-of ChoiceGood (eqb place 0) (choice 0 Clear) (choice place (Metering (levelOf (x .tables) (place - 1) .rate)))
+      (λ e. tt)
+      (λ e. level-rate x sized ok (place - 1) (omega (arith, eqb-false place 0 e)))
+
+  measured-good : (c : Command) (t : Totals) → (150 ≤ c .rate) × (c .rate ≤ 1800) → ChoiceGood (measuredChoice c (x .tables) (x .levels) t)
+  unfolding measuredChoice
+  measured-good c t g =
+      let place = decidingOf (x .tables) (x .levels) (c .table) (measuresOf t) in
+      one-of ChoiceGood (eqb (t .lanes) 0) (choice 0 (Metering (c .rate))) (levelChoice (x .tables) place)
+      (λ e. g)
+      (λ e. level-good place (deciding-in (x .tables) (c .table) (measuresOf t) (x .levels)))
+
+  module _ (m : ℕ) (p : Periods) where
+    responsive-good : (c : Command) → (150 ≤ c .rate) × (c .rate ≤ 1800) → ChoiceGood (responsiveChoice c (x .tables) (x .levels) m p)
+    unfolding responsiveChoice
+    responsive-good c g =
+        one-of ChoiceGood (eqb (p .serial) 0) (choice 0 Clear) (measuredChoice c (x .tables) (x .levels) (totalsOf (p .last) m))
+        (λ e. tt)
+        (λ e. measured-good c (totalsOf (p .last) m) g)
+
+    choice-good : (c : Command) → CommandGood c → ChoiceGood (choiceOf c (x .tables) (x .levels) m p)
+    unfolding choiceOf
+    choice-good c g =
+        one-of ChoiceGood (eqb (c .kind) 2) (choice 0 Green) _ (λ e. tt)
+        (λ _. one-of ChoiceGood (eqb (c .kind) 3) (choice 0 (Metering (c .rate))) _ (λ e. g (omega (arith, eqb-true (c .kind) 3 e)))
+        (λ _. one-of ChoiceGood (eqb (c .kind) 4) (responsiveChoice c (x .tables) (x .levels) m p) (choice 0 Dark)
+        (λ e. responsive-good c (g (omega (arith, eqb-true (c .kind) 4 e))))
+        (λ e. tt)))
+
+  pub wish-good : (clock : Clock) (manual centre : Command) (p : Periods) → commandsBad manual centre ≡ false → WishGood (decisionOf x clock manual centre p .wish)
+  unfolding commandsBad decisionOf commandInForce entryInForce rulingOf
+  wish-good clock manual centre p e =
+      let both = neither (commandBad manual) (commandBad centre) e in
+      let planned = plannedOf (x .plan) (entryInForce x clock) in
+      choice-good (mainlineLanes x) p (commandInForce x clock manual centre)
+      (one-of CommandGood (eqb (manual .kind) 0) (cond (eqb (centre .kind) 0) planned centre) manual
+      (λ _. one-of CommandGood (eqb (centre .kind) 0) planned centre
+      (λ _. planned-good (entryInForce x clock) (in-force-in (x .plan) (x .entries) (dayOf x clock) _))
+      (λ _. command-rate centre (both .1)))
+      (λ _. command-rate manual (both .0)))
