@@ -5,12 +5,13 @@ use crate::periods::{halves, Counts, Periods};
 use crate::poll::poll;
 use crate::random::Random;
 use crate::site::{self, bytes, Site, TIMINGS, UNUSED};
-use crate::wanted::{self, cycle, decide, measures, Command, Measures, Wish};
+use crate::tick_run::{hex, wish_words};
+use crate::timetable::DAYS;
+use crate::wanted::{self, cycle, decide, measures, Command, Measures};
 
 const CASES: usize = 5000;
 const SEED: u64 = 1;
 const POLL_BUFFER: usize = 64;
-const DAYS: [&str; 8] = ["Sun", "Mon", "Tue", "Wed", "Thu", "Fri", "Sat", "Hol"];
 
 pub struct Case {
     file: Vec<u8>,
@@ -44,12 +45,7 @@ fn decision_words(site: &Site, case: &Case) -> String {
         return format!("{refusal} - - - - - - -");
     }
     let d = decide(site, case.clock, case.commands, &case.periods);
-    let (wish, rate) = match d.wish {
-        Wish::Dark => ("dark", 0),
-        Wish::Green => ("green", 0),
-        Wish::Metering(rate) => ("meter", rate),
-        Wish::Clear => ("clear", 0),
-    };
+    let (wish, rate) = wish_words(d.wish);
     let cycle = if rate == 0 { 0 } else { cycle(site, rate) };
     format!("0 {} {} {} {} {wish} {rate} {cycle}", DAYS[d.day], d.entry, d.source, d.level)
 }
@@ -57,10 +53,7 @@ fn decision_words(site: &Site, case: &Case) -> String {
 fn poll_words(site: &Site, p: &Periods) -> String {
     match poll(site, p, POLL_BUFFER) {
         Err(refusal) => format!("poll {refusal}"),
-        Ok(record) => {
-            let hex: String = record.iter().map(|b| format!("{b:02x}")).collect();
-            format!("poll 0 {hex}")
-        }
+        Ok(record) => format!("poll 0 {}", hex(&record)),
     }
 }
 
