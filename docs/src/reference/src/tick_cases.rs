@@ -12,8 +12,8 @@ use crate::tick_run::{payload, Op};
 use crate::wanted::Command;
 
 const SEED: u64 = 2;
-const RUNS: usize = 23;
-const STRANGE: usize = 12;
+const RUNS: u16 = 24;
+const STRANGE: u16 = 12;
 
 // Pieces.
 
@@ -748,9 +748,13 @@ fn cut_operations() -> Vec<Vec<u8>> {
 
 // Random sites and inputs.
 
-/// Short times, so that metering is reached soon; now and then any time.
-fn short_timings(r: &mut Random) -> Vec<u16> {
+/// Short times, so that metering is reached soon; now and then any time. Of 24 sites one behind the other each has
+/// another n, service mode and V.
+fn short_timings(r: &mut Random, k: u16) -> Vec<u16> {
     let mut row: Vec<u16> = TIMINGS.iter().map(|(low, high)| r.number(*low, (*high).min(low + 15))).collect();
+    row[0] = 1 + k % 4;
+    row[1] = k / 4 % 2;
+    row[2] = 1 + k / 8 % 3;
     row[12] = 1;
     row[13] = r.number(1, 40);
     for i in [3, 5, 6, 7, 8, 9, 10, 11, 12, 13] {
@@ -780,11 +784,11 @@ struct Setting {
     demand: u64,
 }
 
-fn setting(r: &mut Random) -> Setting {
+fn setting(r: &mut Random, k: u16) -> Setting {
     let (starts, tables) = (cases::starts(r), r.number(1, 4));
     let date = cases::date(r);
     let dates = vec![date, cases::date(r), date];
-    let timings = short_timings(r);
+    let timings = short_timings(r, k);
     let entries = cases::entries(r, &starts, tables);
     let holidays = cases::holidays(r, date);
     let site = Site { timings, entries, holidays, levels: levels(r, tables) };
@@ -895,8 +899,8 @@ fn interruption(r: &mut Random, s: &Setting, input: &Input, ops: &mut Vec<Op>) {
     }
 }
 
-fn random_run(r: &mut Random) -> Vec<u8> {
-    let s = setting(r);
+fn random_run(r: &mut Random, k: u16) -> Vec<u8> {
+    let s = setting(r, k);
     let mut input = quiet(fixed(1200));
     input.clock = jump(r, &s);
     let mut ops = Vec::new();
@@ -970,8 +974,8 @@ fn strange_state(r: &mut Random, t: &[u16], cycle: u16) -> State {
     state
 }
 
-fn strange_states(r: &mut Random) -> Vec<u8> {
-    let s = setting(r);
+fn strange_states(r: &mut Random, k: u16) -> Vec<u8> {
+    let s = setting(r, k);
     let t = &s.site.timings;
     let mut ops = Vec::new();
     for _ in 0..15 {
@@ -995,7 +999,7 @@ pub fn cases() -> Vec<Vec<u8>> {
     let mut out = [paper(), limits(), spoilt_states(), spoilt_sites(), refused_inputs()].concat();
     out.extend([periods(), closing_wish()]);
     out.extend(cut_operations());
-    out.extend((0..STRANGE).map(|_| strange_states(&mut r)));
-    out.extend((0..RUNS).map(|_| random_run(&mut r)));
+    out.extend((0..STRANGE).map(|k| strange_states(&mut r, 7 * k)));
+    out.extend((0..RUNS).map(|k| random_run(&mut r, k)));
     out
 }
