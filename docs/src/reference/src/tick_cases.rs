@@ -545,7 +545,10 @@ fn spoilt_sites() -> Vec<Vec<u8>> {
         Op::Repair,
         Op::Ticks(1, quiet(GREEN)),
     ];
-    vec![payload(&bytes(&site_a()), &ops), payload(&bytes(&site_a()), &zero)]
+    // power-up looks at every timing
+    let beyond = |i: usize| [Op::Damage(i as u16, TIMINGS[i].1 + 1), Op::PowerUp, Op::Repair];
+    let powered = [(0..15).flat_map(beyond).collect(), vec![Op::PowerUp]].concat();
+    [ops, zero, powered].iter().map(|ops| payload(&bytes(&site_a()), ops)).collect()
 }
 
 // Refused inputs.
