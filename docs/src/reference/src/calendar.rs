@@ -4,7 +4,7 @@ use std::sync::OnceLock;
 
 pub const HOLIDAY: usize = 7;
 
-#[derive(Clone, Copy, Debug, PartialEq)]
+#[derive(Clone, Copy, Debug, PartialEq, Eq, PartialOrd, Ord)]
 pub struct Date {
     pub year: u16,
     pub month: u16,
@@ -61,8 +61,13 @@ fn walk() -> Vec<(Date, u16)> {
     days
 }
 
+/// Where a date stands among all days, if it is one.
+fn search(date: Date) -> Option<usize> {
+    days().binary_search_by_key(&date, |(d, _)| *d).ok()
+}
+
 fn place(date: Date) -> usize {
-    days().iter().position(|(d, _)| *d == date).expect("a true date")
+    search(date).expect("a true date")
 }
 
 pub fn weekday(date: Date) -> u16 {
@@ -75,8 +80,9 @@ pub fn day_before(date: Date) -> Date {
 
 /// The days of that month with that weekday, first to last.
 pub fn such_days(year: u16, month: u16, weekday: u16) -> Vec<Date> {
-    let of_month = |d: &&(Date, u16)| d.0.year == year && d.0.month == month && d.1 == weekday;
-    days().iter().filter(of_month).map(|(d, _)| *d).collect()
+    let first = place(Date { year, month, day: 1 });
+    let of_month = days()[first..].iter().take_while(|(d, _)| d.month == month);
+    of_month.filter(|(_, w)| *w == weekday).map(|(d, _)| *d).collect()
 }
 
 /// The date of that week and weekday in that month; week 5 means the final one.
@@ -117,6 +123,6 @@ pub fn day_type(date: Date, holidays: &[[u16; 4]]) -> usize {
 
 /// Year 2000-2099, a true date, tenth of the day 0-863999.
 pub fn clock_ok(clock: Clock) -> bool {
-    let true_date = days().iter().any(|(d, _)| *d == clock.date && d.year != 1999);
-    true_date && clock.tenth <= 863_999
+    let true_date = search(clock.date).is_some();
+    true_date && clock.date.year != 1999 && clock.tenth <= 863_999
 }

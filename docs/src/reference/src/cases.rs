@@ -1,16 +1,17 @@
 //! Random cases of what is wanted and of the poll record, and the line that each should give.
 
 use crate::calendar::{self, day_before, month_length, such_days, weekday, Clock, Date};
-use crate::periods::{Counts, Periods};
+use crate::periods::{halves, Counts, Periods};
 use crate::poll::poll;
 use crate::random::Random;
 use crate::site::{self, bytes, Site, TIMINGS, UNUSED};
-use crate::wanted::{self, cycle, decide, measures, Command, Measures, Wish};
+use crate::tick_run::{hex, wish_words};
+use crate::timetable::DAYS;
+use crate::wanted::{self, cycle, decide, measures, Command, Measures};
 
 const CASES: usize = 5000;
 const SEED: u64 = 1;
 const POLL_BUFFER: usize = 64;
-const DAYS: [&str; 8] = ["Sun", "Mon", "Tue", "Wed", "Thu", "Fri", "Sat", "Hol"];
 
 pub struct Case {
     file: Vec<u8>,
@@ -21,25 +22,15 @@ pub struct Case {
 
 // The payload: two-byte numbers.
 
-fn halves(n: u32) -> [u16; 2] {
-    [(n >> 16) as u16, n as u16]
-}
-
-fn counts_numbers(c: &Counts) -> Vec<u16> {
-    let mut out = [&c.passages[..], &c.greens, &c.worked, &c.vehicles, &c.occupied, &c.timed].concat();
-    out.extend(c.speeds.iter().flat_map(|s| halves(*s)));
-    out
-}
-
 pub fn payload(case: &Case) -> Vec<u8> {
     let Clock { date, tenth } = case.clock;
     let mut numbers = vec![date.year, date.month, date.day];
     numbers.extend(halves(tenth));
     numbers.extend(case.commands.iter().flat_map(|c| [c.kind, c.rate, c.table]));
     numbers.push(case.periods.ticks);
-    numbers.extend(counts_numbers(&case.periods.current));
+    numbers.extend(case.periods.current.words());
     numbers.extend(halves(case.periods.serial));
-    numbers.extend(counts_numbers(&case.periods.last));
+    numbers.extend(case.periods.last.words());
     let mut out = (case.file.len() as u16).to_be_bytes().to_vec();
     out.extend(&case.file);
     out.extend(numbers.iter().flat_map(|n| n.to_be_bytes()));
@@ -54,12 +45,7 @@ fn decision_words(site: &Site, case: &Case) -> String {
         return format!("{refusal} - - - - - - -");
     }
     let d = decide(site, case.clock, case.commands, &case.periods);
-    let (wish, rate) = match d.wish {
-        Wish::Dark => ("dark", 0),
-        Wish::Green => ("green", 0),
-        Wish::Metering(rate) => ("meter", rate),
-        Wish::Clear => ("clear", 0),
-    };
+    let (wish, rate) = wish_words(d.wish);
     let cycle = if rate == 0 { 0 } else { cycle(site, rate) };
     format!("0 {} {} {} {} {wish} {rate} {cycle}", DAYS[d.day], d.entry, d.source, d.level)
 }
@@ -67,10 +53,7 @@ fn decision_words(site: &Site, case: &Case) -> String {
 fn poll_words(site: &Site, p: &Periods) -> String {
     match poll(site, p, POLL_BUFFER) {
         Err(refusal) => format!("poll {refusal}"),
-        Ok(record) => {
-            let hex: String = record.iter().map(|b| format!("{b:02x}")).collect();
-            format!("poll 0 {hex}")
-        }
+        Ok(record) => format!("poll 0 {}", hex(&record)),
     }
 }
 
@@ -127,7 +110,7 @@ fn counts(r: &mut Random, ticks: u16, n: usize, m: usize) -> Counts {
     c
 }
 
-fn periods(r: &mut Random, n: usize, m: usize) -> Periods {
+pub fn periods(r: &mut Random, n: usize, m: usize) -> Periods {
     let ticks = r.edged(0, 299);
     let serial = match r.from(0, 9) {
         0 => 0,
@@ -158,12 +141,12 @@ fn rows(r: &mut Random, most: u16) -> u16 {
     }
 }
 
-fn rate(r: &mut Random) -> u16 {
+pub fn rate(r: &mut Random) -> u16 {
     r.edged(150, 1800)
 }
 
 /// The rate and the table of a mode.
-fn rate_and_table(r: &mut Random, mode: u16, tables: u16) -> (u16, u16) {
+pub fn rate_and_table(r: &mut Random, mode: u16, tables: u16) -> (u16, u16) {
     let rate = if mode >= 2 { rate(r) } else { 0 };
     let table = if mode == 3 { r.number(1, tables) } else { 0 };
     (rate, table)
@@ -179,7 +162,7 @@ fn day_mask(r: &mut Random) -> u16 {
 }
 
 /// Entries on few distinct starts.
-fn entries(r: &mut Random, starts: &[u16], tables: u16) -> Vec<[u16; 5]> {
+pub fn entries(r: &mut Random, starts: &[u16], tables: u16) -> Vec<[u16; 5]> {
     let days = r.pick(&[255, 255, 127, 0]);
     (0..rows(r, 16))
         .map(|_| {
@@ -241,7 +224,7 @@ fn any_holiday(r: &mut Random) -> [u16; 4] {
     }
 }
 
-fn holidays(r: &mut Random, date: Date) -> Vec<[u16; 4]> {
+pub fn holidays(r: &mut Random, date: Date) -> Vec<[u16; 4]> {
     let hitting = r.pick(&[0, 0, 10, 30]);
     (0..rows(r, 16))
         .map(|_| match r.from(1, 100) {
@@ -278,7 +261,7 @@ fn levels(r: &mut Random, x: Option<Measures>, tables: u16) -> Vec<[u16; 5]> {
 // Clocks and commands in range.
 
 /// Dates at the ends of months and years, 29 February, and any.
-fn date(r: &mut Random) -> Date {
+pub fn date(r: &mut Random) -> Date {
     let year = r.edged(2000, 2099);
     let month = r.number(1, 12);
     match r.from(0, 19) {
@@ -304,7 +287,7 @@ fn date(r: &mut Random) -> Date {
 }
 
 /// Tenths about the start of an entry, and any.
-fn tenth(r: &mut Random, starts: &[u16]) -> u32 {
+pub fn tenth(r: &mut Random, starts: &[u16]) -> u32 {
     let start = r.pick(starts) as u32 * 600;
     match r.from(0, 9) {
         0 => 0,
@@ -327,7 +310,7 @@ fn command(r: &mut Random, tables: u16) -> Command {
     Command { kind, rate, table }
 }
 
-fn starts(r: &mut Random) -> Vec<u16> {
+pub fn starts(r: &mut Random) -> Vec<u16> {
     let latest = r.pick(&[60, 720, 1439]);
     (0..r.from(1, 3)).map(|_| r.edged(0, latest)).collect()
 }
@@ -399,7 +382,7 @@ fn damage_period(r: &mut Random, p: &mut Periods) {
     }
 }
 
-fn damage_clock(r: &mut Random, clock: &mut Clock) {
+pub fn damage_clock(r: &mut Random, clock: &mut Clock) {
     let d = clock.date;
     match r.from(0, 9) {
         0 => clock.tenth = r.pick(&[864_000, 864_001, u32::MAX]),
@@ -415,7 +398,7 @@ fn damage_clock(r: &mut Random, clock: &mut Clock) {
     }
 }
 
-fn damage_command(r: &mut Random, commands: &mut [Command; 2]) {
+pub fn damage_command(r: &mut Random, commands: &mut [Command; 2]) {
     let kind = r.pick(&[0, 1, 2, 3, 4, 5, UNUSED]);
     let rate = r.pick(&[0, 1, 149, 150, 600, 1800, 1801, UNUSED]);
     let table = r.pick(&[0, 1, 4, 5, UNUSED]);

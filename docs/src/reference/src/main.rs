@@ -2,20 +2,29 @@
 //!
 //! - `site-bounds stdin`, `site-bounds stdout`: the files of `crates/site_bounds`.
 //! - `wanted-cases stdin`, `wanted-cases stdout`: the files of `crates/wanted_cases`.
+//! - `tick-cases stdin`, `tick-cases stdout`: the files of `crates/tick_cases`.
 //! - `timetable FILE`: what the timetable program prints of a file.
+//! - `replay FILE`: what the replay program prints of a site file and the ticks on standard input.
 //! - `site-files FOLDER`: the site files that the timetable's test programs read.
 
 mod calendar;
 mod cases;
 mod files;
+mod group;
+mod lanes;
 mod periods;
 mod poll;
 mod random;
+mod replay;
 mod site;
+mod tick;
+mod tick_cases;
+mod tick_run;
 mod timetable;
+mod timings;
 mod wanted;
 
-use std::io::{Result, Write};
+use std::io::{Read, Result, Write};
 
 /// Each case behind its length in two bytes.
 fn framed(cases: &[Vec<u8>]) -> Vec<u8> {
@@ -41,6 +50,10 @@ fn wanted_answers() -> String {
     cases::cases().iter().map(cases::line).collect()
 }
 
+fn tick_answers() -> String {
+    tick_cases::cases().iter().map(|case| tick_run::answer(case)).collect()
+}
+
 fn main() -> Result<()> {
     let words: Vec<String> = std::env::args().skip(1).collect();
     let words: Vec<&str> = words.iter().map(String::as_str).collect();
@@ -50,7 +63,16 @@ fn main() -> Result<()> {
         ["site-bounds", "stdout"] => out.write_all(site_bounds_answers().as_bytes()),
         ["wanted-cases", "stdin"] => out.write_all(&framed(&wanted_cases())),
         ["wanted-cases", "stdout"] => out.write_all(wanted_answers().as_bytes()),
+        ["tick-cases", "stdin"] => out.write_all(&framed(&tick_cases::cases())),
+        ["tick-cases", "stdout"] => out.write_all(tick_answers().as_bytes()),
         ["timetable", file] => out.write_all(timetable::print(&std::fs::read(file)?).as_bytes()),
+        ["replay", file] => {
+            let mut ticks = Vec::new();
+            std::io::stdin().read_to_end(&mut ticks)?;
+            // an absent file counts as empty
+            let file = std::fs::read(file).unwrap_or_default();
+            out.write_all(replay::print(&file, &ticks).as_bytes())
+        }
         ["site-files", folder] => {
             let mut paper = files::site_a();
             paper.entries = vec![[2, 330, 2, 600, 0], [2, 330, 2, 720, 0], [130, 1170, 0, 0, 0]];

@@ -1,4 +1,16 @@
-//! The counts of a period, and when they are spoilt.
+//! The counts of a period, how a tick adds to them, and when they are spoilt.
+
+/// A period's ticks.
+pub const PERIOD: u16 = 300;
+
+/// One tick's sample of a mainline lane.
+#[derive(Clone, Copy, Debug, Default)]
+pub struct Sample {
+    pub working: u16,
+    pub occupied: u16,
+    pub vehicles: u16,
+    pub speed: u16,
+}
 
 #[derive(Clone, Copy, Debug, Default)]
 pub struct Counts {
@@ -19,7 +31,22 @@ pub struct Periods {
     pub last: Counts,
 }
 
+/// A number as two words, high half first.
+pub fn halves(n: u32) -> [u16; 2] {
+    [(n >> 16) as u16, n as u16]
+}
+
 impl Counts {
+    /// The 32 counts that are one word each.
+    pub fn short(&self) -> Vec<u16> {
+        [&self.passages[..], &self.greens, &self.worked, &self.vehicles, &self.occupied, &self.timed].concat()
+    }
+
+    /// All counts in 44 words, the speed sums two each.
+    pub fn words(&self) -> Vec<u16> {
+        [self.short(), self.speeds.into_iter().flat_map(halves).collect()].concat()
+    }
+
     fn metered_spoilt(&self, i: usize, ticks: u16) -> bool {
         self.passages[i] > ticks || self.greens[i] > ticks
     }
@@ -49,15 +76,59 @@ impl Counts {
             || (m..6).any(|j| self.kept_mainline(j))
     }
 
+    /// A lane not working adds nothing; a speed without a vehicle is ignored.
+    fn add_mainline(&mut self, j: usize, s: &Sample) {
+        if s.working == 0 {
+            return;
+        }
+        self.worked[j] += 1;
+        self.occupied[j] += s.occupied;
+        if s.vehicles == 0 {
+            return;
+        }
+        self.vehicles[j] += 1;
+        if s.speed != 0 {
+            self.timed[j] += 1;
+            self.speeds[j] += s.speed as u32;
+        }
+    }
+
     /// A lane is good if it worked at all 300.
     pub fn good(&self, j: usize) -> bool {
-        self.worked[j] == 300
+        self.worked[j] == PERIOD
     }
 }
 
 impl Periods {
     pub fn spoilt(&self, n: usize, m: usize) -> bool {
-        let completed = if self.serial == 0 { 0 } else { 300 };
-        self.ticks > 299 || self.current.spoilt(self.ticks, n, m) || self.last.spoilt(completed, n, m)
+        let completed = if self.serial == 0 { 0 } else { PERIOD };
+        self.ticks >= PERIOD || self.current.spoilt(self.ticks, n, m) || self.last.spoilt(completed, n, m)
+    }
+
+    /// The counts of one tick, of the lanes that there are. The 300th closes the period.
+    pub fn count(&mut self, passages: &[bool], samples: &[Sample]) {
+        for (i, passage) in passages.iter().enumerate() {
+            self.current.passages[i] += *passage as u16;
+        }
+        for (j, sample) in samples.iter().enumerate() {
+            self.current.add_mainline(j, sample);
+        }
+        self.ticks += 1;
+        if self.ticks == PERIOD {
+            self.last = std::mem::take(&mut self.current);
+            self.serial = self.serial.saturating_add(1);
+            self.ticks = 0;
+        }
+    }
+
+    /// The tick counted last has closed a period.
+    pub fn just_closed(&self) -> bool {
+        self.ticks == 0 && self.serial != 0
+    }
+
+    /// A green begun at the tick counted last enters the period of that tick, even one just closed.
+    pub fn green_begun(&mut self, lane: usize) {
+        let counts = if self.just_closed() { &mut self.last } else { &mut self.current };
+        counts.greens[lane - 1] += 1;
     }
 }

@@ -3,7 +3,7 @@
 use crate::site;
 use std::fmt::Write;
 
-const DAYS: [&str; 8] = ["Sun", "Mon", "Tue", "Wed", "Thu", "Fri", "Sat", "Hol"];
+pub const DAYS: [&str; 8] = ["Sun", "Mon", "Tue", "Wed", "Thu", "Fri", "Sat", "Hol"];
 const MODES: [&str; 4] = ["dark", "green", "fixed", "resp"];
 
 pub fn print(file: &[u8]) -> String {

@@ -19,6 +19,7 @@ pub enum Wish {
     Clear,
 }
 
+#[derive(Clone, Copy, Debug)]
 pub struct Decision {
     pub day: usize,
     /// The entry's place in the file from 1, 0 for none.
@@ -57,7 +58,7 @@ fn entry_in_force(site: &Site, day: usize, tenth: u32) -> usize {
     started.max_by_key(|p| site.entries[p - 1][1]).unwrap_or(0)
 }
 
-fn command_ok(c: Command) -> bool {
+pub fn command_ok(c: Command) -> bool {
     match c.kind {
         0 => c.rate == 0 && c.table == 0,
         1..=4 => rate_ok(c.kind - 1, c.rate) && table_ok(c.kind - 1, c.table),

@@ -1,0 +1,214 @@
+//! 'Group intervals' of document 01 and the release of 'Lanes in metering'.
+
+use crate::lanes::{risen, Colour, Lane, LONGEST};
+use crate::timings::Timings;
+use crate::wanted::Wish;
+
+/// An interval's age stops here.
+pub const OLDEST: u16 = 36000;
+const INITIALIZATION_TIME: u16 = 50;
+
+/// The ten intervals in the order of their numbers.
+#[derive(Clone, Copy, Debug, PartialEq)]
+pub enum Interval {
+    Initialization,
+    PreMeteringDark,
+    PreMeteringGreen,
+    Warning,
+    StartupGreen,
+    StartupYellow,
+    StartupRed,
+    Metering,
+    Closing,
+    ShutdownRed,
+}
+
+use Interval::*;
+
+const INTERVALS: [Interval; 10] = [
+    Initialization,
+    PreMeteringDark,
+    PreMeteringGreen,
+    Warning,
+    StartupGreen,
+    StartupYellow,
+    StartupRed,
+    Metering,
+    Closing,
+    ShutdownRed,
+];
+
+impl Interval {
+    pub fn number(self) -> u16 {
+        self as u16
+    }
+
+    pub fn of(number: u16) -> Option<Interval> {
+        INTERVALS.into_iter().find(|i| i.number() == number)
+    }
+
+    /// The lanes' own colours rule here, and their numbers rise.
+    pub fn runs_lanes(self) -> bool {
+        self == Metering || self == Closing
+    }
+}
+
+/// What is shown: of each of four lanes 0 dark, 1 red, 2 yellow, 3 green, and whether its lower green is lit.
+#[derive(Clone, Copy, Debug, Default, PartialEq)]
+pub struct Indications {
+    pub colours: [u16; 4],
+    pub lower: [bool; 4],
+    pub sign: bool,
+}
+
+/// The group with its n lanes.
+#[derive(Clone, Debug)]
+pub struct Group {
+    pub interval: Interval,
+    pub age: u16,
+    pub lanes: Vec<Lane>,
+    /// Ticks since the group's last green began.
+    pub offset: u16,
+    /// The lane last released, from 1.
+    pub last: usize,
+}
+
+/// What one tick brings to the group, behind its checks.
+pub struct Wanted {
+    pub wish: Wish,
+    /// Of a wish to meter; no other has one.
+    pub cycle: Option<u16>,
+    /// Of each lane.
+    pub demand: Vec<bool>,
+    pub passage: Vec<bool>,
+}
+
+impl Group {
+    /// Initialization at age 0, lanes as on entering metering.
+    pub fn power_up(n: usize) -> Group {
+        let mut group = Group { interval: Initialization, age: 0, lanes: Vec::new(), offset: 0, last: 0 };
+        group.reset_lanes(n);
+        group
+    }
+
+    fn reset_lanes(&mut self, n: usize) {
+        self.lanes = vec![Lane::entering(); n];
+        self.offset = LONGEST;
+        self.last = n;
+    }
+
+    /// One tick: group interval, lane intervals, release. Gives the lane released, from 1.
+    pub fn tick(&mut self, t: &Timings, w: &Wanted) -> Option<usize> {
+        let entered = self.change_interval(t, w.wish);
+        if entered == Some(Metering) {
+            // the numbers rise from the next tick on
+            self.reset_lanes(t.lanes);
+        } else if self.interval.runs_lanes() {
+            self.run_lanes(t, &w.passage);
+        }
+        self.release(t, w)
+    }
+
+    // Group intervals.
+
+    /// The age rises, then at most one change; gives the interval entered.
+    fn change_interval(&mut self, t: &Timings, wish: Wish) -> Option<Interval> {
+        if self.age < OLDEST {
+            self.age += 1;
+        }
+        let next = self.next_interval(t, wish)?;
+        self.interval = next;
+        self.age = 0;
+        Some(next)
+    }
+
+    fn next_interval(&self, t: &Timings, wish: Wish) -> Option<Interval> {
+        let metering = matches!(wish, Wish::Metering(_));
+        let after = |time: u16, next: Interval| (self.age >= time).then_some(next);
+        match self.interval {
+            Initialization => after(INITIALIZATION_TIME, PreMeteringDark),
+            PreMeteringDark => (metering || wish == Wish::Green).then_some(PreMeteringGreen),
+            PreMeteringGreen => match wish {
+                Wish::Metering(_) => after(t.minimum_premetering, Warning),
+                Wish::Dark => after(t.minimum_premetering, PreMeteringDark),
+                Wish::Clear => after(t.maximum_premetering, PreMeteringDark),
+                Wish::Green => None,
+            },
+            Warning => after(t.warning, StartupGreen),
+            StartupGreen => after(t.startup_green, StartupYellow),
+            StartupYellow => after(t.startup_yellow, StartupRed),
+            StartupRed => after(t.startup_red, Metering),
+            Metering => (!metering).then_some(Closing),
+            // the lanes are still as the tick before left them
+            Closing => self.all_red().then_some(ShutdownRed),
+            ShutdownRed => after(t.shutdown_red, PreMeteringGreen),
+        }
+    }
+
+    fn all_red(&self) -> bool {
+        self.lanes.iter().all(|lane| lane.colour == Colour::Red)
+    }
+
+    // Lane intervals.
+
+    fn run_lanes(&mut self, t: &Timings, passage: &[bool]) {
+        self.offset = risen(self.offset);
+        for (lane, passage) in self.lanes.iter_mut().zip(passage) {
+            lane.tick(t, *passage);
+        }
+    }
+
+    // Release.
+
+    /// In metering alone, the first ready lane from the one after the last released, if the mode allows one.
+    fn release(&mut self, t: &Timings, w: &Wanted) -> Option<usize> {
+        let cycle = w.cycle?;
+        if self.interval != Metering || !self.mode_allows(t, cycle) {
+            return None;
+        }
+        let ready = |lane: &usize| self.lanes[lane - 1].ready(t, w.demand[lane - 1], cycle);
+        let lane = self.in_turn().find(ready)?;
+        self.lanes[lane - 1].release();
+        self.offset = 0;
+        self.last = lane;
+        Some(lane)
+    }
+
+    /// The lanes in turn: those after the last released, then those from 1 up to it.
+    fn in_turn(&self) -> impl Iterator<Item = usize> {
+        (self.last + 1..=self.lanes.len()).chain(1..=self.last)
+    }
+
+    /// Mutual exclusion: no lane green. Fractional offset: the lanes' share of a cycle since the last green's start.
+    fn mode_allows(&self, t: &Timings, cycle: u16) -> bool {
+        if t.fractional_offset {
+            self.offset >= cycle.div_ceil(t.lanes as u16)
+        } else {
+            self.lanes.iter().all(|lane| lane.colour != Colour::Green)
+        }
+    }
+
+    // Indications.
+
+    pub fn indications(&self) -> Indications {
+        let sign_off = matches!(self.interval, Initialization | PreMeteringDark | PreMeteringGreen);
+        let mut shown = Indications { sign: !sign_off, ..Indications::default() };
+        for (i, lane) in self.lanes.iter().enumerate() {
+            let colour = self.shown(lane);
+            shown.colours[i] = colour.map_or(0, Colour::number);
+            shown.lower[i] = matches!(colour, Some(Colour::Green | Colour::Yellow));
+        }
+        shown
+    }
+
+    /// The colour that a lane shows, none when dark.
+    fn shown(&self, lane: &Lane) -> Option<Colour> {
+        match self.interval {
+            Initialization | PreMeteringDark => None,
+            PreMeteringGreen | Warning | StartupGreen => Some(Colour::Green),
+            StartupYellow => Some(Colour::Yellow),
+            StartupRed | ShutdownRed => Some(Colour::Red),
+            Metering | Closing => Some(lane.colour),
+        }
+    }
+}

@@ -1,0 +1,250 @@
+//! The state and one tick of document 01: its checks, then counts, what is wanted, group interval, lane intervals, release.
+
+use crate::calendar::{clock_ok, Clock};
+use crate::group::{Group, Indications, Interval, Wanted, OLDEST};
+use crate::lanes::{Colour, Lane, LONGEST, MOST_PASSAGES};
+use crate::periods::{halves, Periods, Sample};
+use crate::poll;
+use crate::site::{self, Site};
+use crate::timings::Timings;
+use crate::wanted::{command_ok, cycle, decide, lanes, Command, Decision, Wish};
+
+// The state.
+
+/// A lane's numbers as they are kept: 1 red, 2 yellow, 3 green; all 0 beyond n.
+#[derive(Clone, Copy, Debug, Default, PartialEq)]
+pub struct KeptLane {
+    pub colour: u16,
+    pub age: u16,
+    pub counter: u16,
+    pub passages: u16,
+}
+
+/// A state as it is kept, with any numbers.
+#[derive(Clone, Copy, Debug, Default)]
+pub struct State {
+    pub interval: u16,
+    pub age: u16,
+    pub lanes: [KeptLane; 4],
+    pub offset: u16,
+    pub last: u16,
+    pub periods: Periods,
+}
+
+fn keep(group: &Group, periods: Periods) -> State {
+    let mut state = State {
+        interval: group.interval.number(),
+        age: group.age,
+        lanes: [KeptLane::default(); 4],
+        offset: group.offset,
+        last: group.last as u16,
+        periods,
+    };
+    for (kept, lane) in state.lanes.iter_mut().zip(&group.lanes) {
+        let Lane { colour, age, counter, passages } = *lane;
+        *kept = KeptLane { colour: colour.number(), age, counter, passages };
+    }
+    state
+}
+
+/// The group of a state that is not spoilt.
+fn group_of(state: &State, n: usize) -> Group {
+    let lane = |kept: &KeptLane| {
+        let KeptLane { colour, age, counter, passages } = *kept;
+        Lane { colour: Colour::of(colour).expect("a colour"), age, counter, passages }
+    };
+    Group {
+        interval: Interval::of(state.interval).expect("an interval"),
+        age: state.age,
+        lanes: state.lanes[..n].iter().map(lane).collect(),
+        offset: state.offset,
+        last: state.last as usize,
+    }
+}
+
+// Checks.
+
+/// 14: a site record that no file could give.
+fn site_spoilt(site: &Site) -> bool {
+    site::read(&site::bytes(site)).as_ref() != Ok(site)
+}
+
+/// A lane's number out of range, or a colour other than red where the lanes do not run.
+fn lane_spoilt(lane: &KeptLane, running: bool) -> bool {
+    let colour_ok = match Colour::of(lane.colour) {
+        None => false,
+        Some(colour) => running || colour == Colour::Red,
+    };
+    !colour_ok || lane.age > LONGEST || lane.counter > LONGEST || lane.passages > MOST_PASSAGES
+}
+
+/// 13: of a site that a file could give.
+fn state_spoilt(site: &Site, state: &State) -> bool {
+    let (n, m) = lanes(site);
+    let Some(interval) = Interval::of(state.interval) else {
+        return true;
+    };
+    state.age > OLDEST
+        || state.offset > LONGEST
+        || !(1..=n as u16).contains(&state.last)
+        || state.lanes[..n].iter().any(|lane| lane_spoilt(lane, interval.runs_lanes()))
+        || state.lanes[n..].iter().any(|lane| *lane != KeptLane::default())
+        || state.periods.spoilt(n, m)
+}
+
+/// One tick's input, with any numbers.
+#[derive(Clone, Copy, Debug)]
+pub struct Input {
+    pub clock: Clock,
+    pub demand: [u16; 4],
+    pub passage: [u16; 4],
+    pub mainline: [Sample; 6],
+    /// Manual and communications.
+    pub commands: [Command; 2],
+}
+
+fn sample_ok(s: &Sample) -> bool {
+    s.working <= 1 && s.occupied <= 100 && s.vehicles <= 1 && s.speed <= 250
+}
+
+/// 9, the other way round: all in range, and lanes beyond n or m are not looked at.
+fn samples_ok(site: &Site, input: &Input) -> bool {
+    let (n, m) = lanes(site);
+    let metered = input.demand[..n].iter().chain(&input.passage[..n]);
+    metered.into_iter().all(|sample| *sample <= 1) && input.mainline[..m].iter().all(sample_ok)
+}
+
+/// The checks of a tick in their order, 0 when all hold.
+fn refusal(site: &Site, state: &State, input: &Input) -> u8 {
+    if site_spoilt(site) {
+        14
+    } else if state_spoilt(site, state) {
+        13
+    } else if !clock_ok(input.clock) {
+        8
+    } else if !samples_ok(site, input) {
+        9
+    } else if !input.commands.iter().all(|c| command_ok(*c)) {
+        10
+    } else {
+        0
+    }
+}
+
+// Power-up, tick and poll.
+
+/// The refusal, 0 or 14, and the state; refused, it is all zero.
+pub fn power_up(site: &Site) -> (u8, State) {
+    if site_spoilt(site) {
+        return (14, State::default());
+    }
+    (0, keep(&Group::power_up(lanes(site).0), Periods::default()))
+}
+
+#[derive(Clone, Copy, Debug)]
+pub struct Answer {
+    pub refusal: u8,
+    pub state: State,
+    pub indications: Indications,
+    pub decision: Decision,
+    /// Of a wish to meter, in every interval; else 0.
+    pub cycle: u16,
+    /// The lane released, from 1, or 0.
+    pub released: usize,
+}
+
+/// The state as it came, and nothing decided.
+fn refused(refusal: u8, site: &Site, state: &State) -> Answer {
+    let indications = match refusal {
+        13 | 14 => Indications::default(),
+        _ => group_of(state, lanes(site).0).indications(),
+    };
+    let decision = Decision { day: 0, entry: 0, source: "plan", level: 0, wish: Wish::Dark };
+    Answer { refusal, state: *state, indications, decision, cycle: 0, released: 0 }
+}
+
+fn accepted(site: &Site, state: &State, input: &Input) -> Answer {
+    let (n, m) = lanes(site);
+    let on = |samples: &[u16; 4]| samples[..n].iter().map(|s| *s == 1).collect::<Vec<bool>>();
+    let (demand, passage) = (on(&input.demand), on(&input.passage));
+
+    let mut periods = state.periods;
+    periods.count(&passage, &input.mainline[..m]);
+
+    let decision = decide(site, input.clock, input.commands, &periods);
+    let cycle = match decision.wish {
+        Wish::Metering(rate) => Some(cycle(site, rate) as u16),
+        _ => None,
+    };
+
+    let mut group = group_of(state, n);
+    let released = group.tick(&Timings::of(site), &Wanted { wish: decision.wish, cycle, demand, passage });
+    if let Some(lane) = released {
+        periods.green_begun(lane);
+    }
+
+    Answer {
+        refusal: 0,
+        state: keep(&group, periods),
+        indications: group.indications(),
+        decision,
+        cycle: cycle.unwrap_or(0),
+        released: released.unwrap_or(0),
+    }
+}
+
+pub fn tick(site: &Site, state: &State, input: &Input) -> Answer {
+    match refusal(site, state, input) {
+        0 => accepted(site, state, input),
+        number => refused(number, site, state),
+    }
+}
+
+/// The poll record of the present site and state, or its refusal: 14, 13, 12, 11.
+pub fn poll_record(site: &Site, state: &State, buffer: usize) -> Result<Vec<u8>, u8> {
+    if site_spoilt(site) {
+        return Err(14);
+    }
+    if state_spoilt(site, state) {
+        return Err(13);
+    }
+    poll::poll(site, &state.periods, buffer)
+}
+
+// The state as a row of numbers.
+
+/// Group and lanes: interval, age, colours, ages, counters, passage counts, offset, last.
+fn group_numbers(state: &State) -> Vec<u16> {
+    let mut out = vec![state.interval, state.age];
+    out.extend(state.lanes.iter().map(|lane| lane.colour));
+    out.extend(state.lanes.iter().map(|lane| lane.age));
+    out.extend(state.lanes.iter().map(|lane| lane.counter));
+    out.extend(state.lanes.iter().map(|lane| lane.passages));
+    out.extend([state.offset, state.last]);
+    out
+}
+
+impl State {
+    /// The state in 98 numbers.
+    pub fn numbers(&self) -> Vec<u32> {
+        let wide = |words: Vec<u16>| words.into_iter().map(u32::from);
+        let p = &self.periods;
+        let mut out: Vec<u32> = wide(group_numbers(self)).collect();
+        out.push(p.ticks as u32);
+        out.extend(wide(p.current.short()).chain(p.current.speeds));
+        out.push(p.serial);
+        out.extend(wide(p.last.short()).chain(p.last.speeds));
+        out
+    }
+
+    /// The state in 111 two-byte numbers: speed sums and serial are two each, high half first.
+    pub fn words(&self) -> Vec<u16> {
+        let p = &self.periods;
+        let mut out = group_numbers(self);
+        out.push(p.ticks);
+        out.extend(p.current.words());
+        out.extend(halves(p.serial));
+        out.extend(p.last.words());
+        out
+    }
+}
