@@ -16,7 +16,7 @@ use Rattle.period.specs.declared.Periods.{Periods}
 use Rattle.period.specs.Range.{periodsSpoilt}
 use Rattle.wanted.specs.Decision.{refusalOf}
 
-tenth-good : (clock : Clock) → clockBad clock ≡ false → clock .tenth ≤ 863999
+pub tenth-good : (clock : Clock) → clockBad clock ≡ false → clock .tenth ≤ 863999
 unfolding clockBad
 tenth-good clock e = ltb-false 863999 (clock .tenth) (neither (not (isDate (clock .date))) (ltb 863999 (clock .tenth)) e .1)
 
