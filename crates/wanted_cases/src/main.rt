@@ -16,12 +16,9 @@ fn print_poll(site: Site, state: State) {
 
 // A group at power-up, and the case's periods.
 fn state_of(site: Site, rest: &[u8]) -> State {
-    let fresh = state::fresh(site.timings[0]);
-    let group = fresh.group;
-    State {
-        group,
-        periods: input::periods(rest),
-    }
+    let mut state = state::fresh(site.timings[0]);
+    state.periods = input::periods(rest);
+    state
 }
 
 // The rest of a case, at a site.

@@ -62,7 +62,7 @@ returns-2 c =
 
 store-record-requires : tie.Need-store-record-requires
 store-record-requires c κs =
-    let s = c .before .before in
+    let s = c .before .before .before in
     let e = s .before .before .before in
     let b = e .before .before .before in
     (most-metered (b .args .t1) (sized b) (site-sound (b .args .t1) (b .args .state) (not-refused e)), omega (arith, s .record-size .ensures))
@@ -76,7 +76,7 @@ same-length c = search needs
 returns-3 : tie.Need-returns-3
 returns-3 c =
     let p = c .before .before .before in
-    let s = p .before .before .before in
+    let s = p .before .before .before .before in
     let a = s .before .before .before .before .before .before .args in
     let text = pollOf (a .t1) (a .state) in
     let fits : length text ≤ length (now (a .out)) = omega (arith, is-size s) in

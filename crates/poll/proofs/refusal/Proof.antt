@@ -12,14 +12,14 @@ returns : tie.Need-returns
 unfolding refusalOf
 returns c = rw (← c .before .spoilt .ensures, c .if1 .taken)
 
-element-copy-out-spoilt2 : tie.Need-element-copy-out-spoilt2
-element-copy-out-spoilt2 c = search needs
+element-copy-out-spoilt : tie.Need-element-copy-out-spoilt
+element-copy-out-spoilt c = search needs
 
-element-copy-out-spoilt2-2 : tie.Need-element-copy-out-spoilt2-2
-element-copy-out-spoilt2-2 c = search needs
+element-copy-out-spoilt-2 : tie.Need-element-copy-out-spoilt-2
+element-copy-out-spoilt-2 c = search needs
 
-spoilt2-requires : tie.Need-spoilt2-requires
-spoilt2-requires c κs = search needs
+spoilt-requires-2 : tie.Need-spoilt-requires-2
+spoilt-requires-2 c κs = search needs
 
 returns-2 : tie.Need-returns-2
 unfolding refusalOf
@@ -48,9 +48,9 @@ refusal-spec =
     (tie.spec
     spoilt-requires
     returns
-    element-copy-out-spoilt2
-    element-copy-out-spoilt2-2
-    spoilt2-requires
+    element-copy-out-spoilt
+    element-copy-out-spoilt-2
+    spoilt-requires-2
     returns-2
     returns-3
     returns-4)
