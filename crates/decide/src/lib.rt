@@ -33,13 +33,7 @@ fn refusal_of(site: Site, state: State, clock: Clock, manual: Command, centre: C
 }
 
 // What is decided, or why it is not: the decision is then that of no entry, dark.
-pub fn decide(
-    site: Site,
-    state: State,
-    clock: Clock,
-    manual: Command,
-    centre: Command,
-) -> Decided
+pub fn decide(site: Site, state: State, clock: Clock, manual: Command, centre: Command) -> Decided
     ensures { λ r. ⌜ r ≡ decidedOf site state clock manual centre ⌝ }
 {
     let refusal = refusal_of(site, state, clock, manual, centre);

@@ -82,7 +82,7 @@ returns-3 c =
     let fits : length text ≤ length (now (a .out)) = omega (arith, is-size s) in
     let o = accepted text (now (a .out)) fits in
     rw (not-refused (s .before .before .before))
-    (c .accepted-write .ensures ∙ ap acceptedWrite (is-size s) ∙ o .answers, p .store-record .ensures ∙ over-front text (now (a .out)) fits ∙ o .leaves)
+    (c .accepted-write .ensures ∙ ap acceptedWrite (is-size s) ∙ o .answers, rw (p .store-record .ensures, over-front text (now (a .out)) fits) (o .leaves))
 
 pub poll-spec : {M : Type 1} → statement M
 poll-spec =
