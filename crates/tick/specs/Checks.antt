@@ -12,16 +12,13 @@ use Rattle.state.specs.declared.State.{State}
 use Rattle.state.specs.State.{stateSpoilt}
 use Rattle.tick.specs.declared.Input.{Input}
 
--- 14, 13: the checks of site and state.
-unfoldable pub stateRefusal : Site → State → ℕ
-stateRefusal x s = cond (spoiltSite x) 14 (cond (stateSpoilt s (meteredLanes x) (mainlineLanes x)) 13 0)
-
 -- 8, 9, 10: the checks of one tick's input.
 unfoldable pub inputRefusal : Site → Input → ℕ
 inputRefusal x i =
     cond (clockBad (i .clock)) 8
     (cond (samplesBad (i .lanes) (i .main) (meteredLanes x) (mainlineLanes x)) 9 (cond (commandsBad (i .manual) (i .centre)) 10 0))
 
+-- 14, 13, then the input's.
 unfoldable pub tickRefusal : Site → State → Input → ℕ
 tickRefusal x s i =
     cond (spoiltSite x) 14 (cond (stateSpoilt s (meteredLanes x) (mainlineLanes x)) 13 (inputRefusal x i))

@@ -1,2 +1,3 @@
 pub mod SiteA
+pub mod Run
 pub mod Starred

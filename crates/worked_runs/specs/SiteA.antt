@@ -1,12 +1,14 @@
 -- Document 01, 'Worked runs': "Site A: n 2, V 1, exclusion, greens 10 and 20, yellow 20, red 20, warning 100, startup 50, 30, 50, minimum
 -- pre-metering 10, the other timings at their least."
+use Prim.Native.Nat.{ℕ}
 use mathlib.Core.List.{[], _∷_}
 use lib.ListN.{replicate}
 use Rattle.site.specs.declared.Site.{Site}
 
-abbrev pub siteA : Site
-siteA = record {
-  timings = 2 ∷ 0 ∷ 1 ∷ 10 ∷ 20 ∷ 20 ∷ 20 ∷ 100 ∷ 50 ∷ 30 ∷ 50 ∷ 10 ∷ 1 ∷ 10 ∷ 1 ∷ [];
+-- In the service mode given: 0 mutual exclusion, 1 fractional offset.
+abbrev pub siteIn : ℕ → Site
+siteIn mode = record {
+  timings = 2 ∷ mode ∷ 1 ∷ 10 ∷ 20 ∷ 20 ∷ 20 ∷ 100 ∷ 50 ∷ 30 ∷ 50 ∷ 10 ∷ 1 ∷ 10 ∷ 1 ∷ [];
   entries = 0;
   plan = replicate 80 0;
   holidays = 0;
@@ -14,3 +16,9 @@ siteA = record {
   levels = 0;
   tables = replicate 120 0;
 }
+
+abbrev pub siteA : Site
+siteA = siteIn 0
+
+abbrev pub siteAWithOffset : Site
+siteAWithOffset = siteIn 1

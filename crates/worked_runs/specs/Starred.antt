@@ -1,24 +1,20 @@
--- Document 01, 'Worked runs': the runs marked * in one proof, by computation from the definitions that the calls' contracts cite.
+-- Document 01, 'Worked runs': the runs marked *, in the definitions that the calls' contracts cite. One proof, `starred`, shows them all.
 use Prim.Native.Nat.{ℕ}
-use mathlib.Core.Path.{_≡_, refl}
+use mathlib.Core.Path.{_≡_}
 use mathlib.Core.Bool.{true, false}
 use mathlib.Core.List.{[], _∷_, _++_}
 use lib.ListN.{length, take, replicate}
-use Rattle.ranges.specs.Ranges.{isWithin, timingRange}
-use Rattle.ranges.specs.Sections.{rangeOf, isGood}
-use Rattle.site.specs.Reading.{refused, sectionOf, readOf}
-use Rattle.site.specs.Writing.{wordsOf, bytesOf}
+use Rattle.site.specs.Reading.{refused, readOf}
+use Rattle.site.specs.Writing.{bytesOf}
 use Rattle.calendar.specs.declared.day.Date.{Date}
-use Rattle.calendar.specs.Dates.{isWithin as isWithinDates, daysBefore, monthLength, isDate, dayNumber, weekdayOf}
-use Rattle.calendar.specs.Days.{inMonth, todayOf, monthBefore, yesterdayOf}
-use Rattle.calendar.specs.Holidays.{isFloating, dayTypeOf, isNamed, isFixed}
+use Rattle.calendar.specs.Holidays.{dayTypeOf}
 use Rattle.period.specs.declared.Counts.{Counts}
-use Rattle.period.specs.Counts.{goodOf}
 use Rattle.levels.specs.declared.Level.{Level}
-use Rattle.levels.specs.Measures.{withLane, totalsOf, measuresOf}
-use Rattle.levels.specs.Levels.{reachesOf, isSlow, isMet}
-use Rattle.release.specs.Cycle.{roundedUp, cycleTicks}
-use Rattle.worked_runs.specs.SiteA.{siteA}
+use Rattle.levels.specs.Measures.{totalsOf, measuresOf}
+use Rattle.levels.specs.Levels.{isMet}
+use Rattle.release.specs.Cycle.{cycleTicks}
+use Rattle.worked_runs.specs.SiteA.{siteA, siteAWithOffset}
+use Rattle.worked_runs.specs.Run.{metering600, answerAt, releases}
 
 abbrev pub date : ℕ → ℕ → ℕ → Date
 date year month day = record { year = year; month = month; day = day }
@@ -59,23 +55,14 @@ pub record Starred : Type 0 where
   pub accepted : readOf (bytesOf siteA) ≡ record { refusal = 0; place = 0; site = siteA }
   pub one-byte-less : readOf (take 37 (bytesOf siteA)) ≡ refused 1 37
   pub one-byte-more : readOf (bytesOf siteA ++ (0 ∷ [])) ≡ refused 7 38
-
-pub starred : Starred
-unfolding cycleTicks roundedUp dayTypeOf isDate isWithinDates daysBefore monthLength dayNumber weekdayOf inMonth todayOf monthBefore yesterdayOf isFloating isFixed isNamed measuresOf totalsOf withLane goodOf isMet reachesOf isSlow wordsOf readOf sectionOf isGood rangeOf timingRange isWithin
-starred = record {
-  cycle-600 = refl;
-  cycle-700 = refl;
-  cycle-150 = refl;
-  fourth-thursday = refl;
-  day-after = refl;
-  not-the-fourth-friday = refl;
-  final-monday = refl;
-  flow-31 = refl;
-  below-1260 = refl;
-  flow-32 = refl;
-  met-1260 = refl;
-  empty-lists = refl;
-  accepted = refl;
-  one-byte-less = refl;
-  one-byte-more = refl;
-}
+  -- "Tick 50 dark, 51 green, 61 warning, 291 metering, 311 lane 1, 331 lane 2, 371 lane 1."
+  pub dark-at-50 : answerAt siteA metering600 50 .shown .colours ≡ 0 ∷ 0 ∷ 0 ∷ 0 ∷ []
+  pub green-at-51 : answerAt siteA metering600 51 .shown .colours ≡ 3 ∷ 3 ∷ 0 ∷ 0 ∷ []
+  pub no-warning-at-60 : answerAt siteA metering600 60 .shown .sign ≡ 0
+  pub warning-at-61 : answerAt siteA metering600 61 .shown .sign ≡ 1
+  pub red-at-290 : answerAt siteA metering600 290 .state .group .interval ≡ 6
+  pub metering-at-291 : answerAt siteA metering600 291 .state .group .interval ≡ 7
+  pub lane-1-at-311 : answerAt siteA metering600 311 .shown .colours ≡ 3 ∷ 1 ∷ 0 ∷ 0 ∷ []
+  pub released : releases siteA metering600 371 ≡ (311, 1) ∷ (331, 2) ∷ (371, 1) ∷ []
+  -- "With fractional offset lane 2 begins at 341."
+  pub released-with-offset : releases siteAWithOffset metering600 371 ≡ (311, 1) ∷ (341, 2) ∷ (371, 1) ∷ []

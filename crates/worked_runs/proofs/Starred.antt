@@ -1,0 +1,63 @@
+-- The runs marked * of document 01: all by computation.
+use mathlib.Core.Path.{refl}
+use Rattle.worked_runs.specs.Run.{stateAfter, answerAt, releasesFrom, releases}
+use Rattle.tick.specs.Checks.{inputRefusal, tickRefusal}
+use Rattle.tick.specs.Timings.{timingsOf, timesOf}
+use Rattle.tick.specs.Tick.{powerUpOf, countedIn, decidedIn, cycleIn, movedIn, acceptedTick, refusedTick, tickOf}
+use Rattle.state.specs.State.{stateSpoilt, freshState}
+use Rattle.group.specs.Group.{allRed, intervalOf, lanesIn, releasedIn, groupOf, lanesMoved, movedWith, movedOf}
+use Rattle.group.specs.Indications.{colourShown, lowerShown, signShown, laneShown, indicationsOf}
+use Rattle.group.specs.Intervals.{ageOf, timeOf, successorOf, nextInterval}
+use Rattle.group.specs.Range.{colourSpoilt, laneSpoilt, laneKept, laneSpoiltAt, lanesSpoilt, groupSpoilt}
+use Rattle.lanes.specs.Intervals.{riseOf, passagesOf, greenEnds, greenAt, yellowAt, laneTick}
+use Rattle.lanes.specs.Lanes.{laneOf, lanesOf, laneTickAt, lanesTick, laneEntered, lanesEntered}
+use Rattle.release.specs.Cycle.{roundedUp, cycleTicks, offsetTicks}
+use Rattle.release.specs.Release.{isReady, readyAt, anyGreen, mayRelease, nextLane, releasedOf, greenIf, releaseOf}
+use Rattle.period.specs.Counting.{laneCounted, laneCountedAt, passagesAt, countedOf, nextSerial, closedOf, afterTick, greensAt, greenCounted, afterRelease}
+use Rattle.period.specs.Counts.{noPeriods, goodOf}
+use Rattle.period.specs.Range.{mostTicks, laneSpoilt as countsLaneSpoilt, meteredSpoilt, countsSpoilt, lastTicks, periodsSpoilt}
+use Rattle.wanted.specs.Decision.{dayOf, entryInForce, commandInForce, decisionOf}
+use Rattle.wanted.specs.Wish.{plannedOf, rulingOf, sourceOf, choiceOf}
+use Rattle.inputs.specs.Samples.{meteredBad, laneBad, samplesBad}
+use Rattle.inputs.specs.Commands.{commandBad, commandsBad}
+use Rattle.calendar.specs.Clock.{clockBad}
+use Rattle.calendar.specs.Dates.{isWithin as isWithinDates, daysBefore, monthLength, isDate, dayNumber, weekdayOf}
+use Rattle.site.specs.Record.{spoiltOf, spoiltSite}
+use Rattle.ranges.specs.Ranges.{isWithin, timingRange, rateRange, tableRange}
+use Rattle.ranges.specs.Sections.{rangeOf, isGood}
+use Rattle.site.specs.Reading.{sectionOf, readOf}
+use Rattle.site.specs.Writing.{wordsOf}
+use Rattle.calendar.specs.Days.{inMonth, todayOf, monthBefore, yesterdayOf}
+use Rattle.calendar.specs.Holidays.{isFloating, dayTypeOf, isNamed, isFixed}
+use Rattle.levels.specs.Measures.{withLane, totalsOf, measuresOf}
+use Rattle.levels.specs.Levels.{reachesOf, isSlow, isMet}
+use Rattle.worked_runs.specs.Starred.{Starred}
+
+pub starred : Starred
+unfolding cycleTicks roundedUp dayTypeOf isDate isWithinDates daysBefore monthLength dayNumber weekdayOf inMonth todayOf monthBefore yesterdayOf isFloating isFixed isNamed measuresOf totalsOf withLane goodOf isMet reachesOf isSlow wordsOf readOf sectionOf isGood rangeOf timingRange isWithin stateAfter answerAt releasesFrom releases inputRefusal tickRefusal timingsOf timesOf powerUpOf countedIn decidedIn cycleIn movedIn acceptedTick refusedTick tickOf stateSpoilt freshState allRed intervalOf lanesIn releasedIn groupOf lanesMoved movedWith movedOf colourShown lowerShown signShown laneShown indicationsOf ageOf timeOf successorOf nextInterval colourSpoilt laneSpoilt laneKept laneSpoiltAt lanesSpoilt groupSpoilt riseOf passagesOf greenEnds greenAt yellowAt laneTick laneOf lanesOf laneTickAt lanesTick laneEntered lanesEntered offsetTicks isReady readyAt anyGreen mayRelease nextLane releasedOf greenIf releaseOf laneCounted laneCountedAt passagesAt countedOf nextSerial closedOf afterTick greensAt greenCounted afterRelease noPeriods mostTicks countsLaneSpoilt meteredSpoilt countsSpoilt lastTicks periodsSpoilt dayOf entryInForce commandInForce decisionOf plannedOf rulingOf sourceOf choiceOf meteredBad laneBad samplesBad commandBad commandsBad clockBad spoiltOf spoiltSite rateRange tableRange
+starred = record {
+  cycle-600 = refl;
+  cycle-700 = refl;
+  cycle-150 = refl;
+  fourth-thursday = refl;
+  day-after = refl;
+  not-the-fourth-friday = refl;
+  final-monday = refl;
+  flow-31 = refl;
+  below-1260 = refl;
+  flow-32 = refl;
+  met-1260 = refl;
+  empty-lists = refl;
+  accepted = refl;
+  one-byte-less = refl;
+  one-byte-more = refl;
+  dark-at-50 = refl;
+  green-at-51 = refl;
+  no-warning-at-60 = refl;
+  warning-at-61 = refl;
+  red-at-290 = refl;
+  metering-at-291 = refl;
+  lane-1-at-311 = refl;
+  released = refl;
+  released-with-offset = refl;
+}

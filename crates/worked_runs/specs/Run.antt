@@ -1,0 +1,42 @@
+-- A run: ticks from power-up at a site, all with one input.
+use Prim.Native.Nat.{ℕ, zero, suc, _+_, _-_}
+use mathlib.Core.Bool.{cond}
+use mathlib.Core.List.{List, [], _∷_}
+use lib.Dec.{eqb}
+use lib.ListN.{replicate}
+use Rattle.site.specs.declared.Site.{Site}
+use Rattle.state.specs.declared.State.{State}
+use Rattle.tick.specs.declared.Input.{Input}
+use Rattle.tick.specs.declared.Ticked.{Ticked}
+use Rattle.tick.specs.Tick.{powerUpOf, tickOf}
+
+-- "Metering at 600 wanted always, demand on, no passage": wanted by the technician, at midnight of 1 January 2024.
+abbrev pub metering600 : Input
+metering600 = record {
+  clock = record { date = record { year = 2024; month = 1; day = 1 }; tenth = 0 };
+  lanes = record { demand = replicate 4 1; passage = replicate 4 0 };
+  main = record { working = replicate 6 1; occupied = replicate 6 0; vehicles = replicate 6 0; speed = replicate 6 0 };
+  manual = record { kind = 3; rate = 600; table = 0 };
+  centre = record { kind = 0; rate = 0; table = 0 };
+}
+
+-- The state after k ticks from a state.
+unfoldable pub stateAfter : Site → Input → ℕ → State → State
+stateAfter x i zero s = s
+stateAfter x i (suc k) s = stateAfter x i k (tickOf x s i .state)
+
+-- What tick k since power-up answers, the first being 1.
+unfoldable pub answerAt : Site → Input → ℕ → Ticked
+answerAt x i k = tickOf x (stateAfter x i (k - 1) (powerUpOf x .state)) i
+
+-- Of the k ticks from this number on, those that release a lane, each with the lane.
+unfoldable pub releasesFrom : Site → Input → ℕ → ℕ → State → List (ℕ × ℕ)
+releasesFrom x i number zero s = []
+releasesFrom x i number (suc k) s =
+    let r : Ticked = tickOf x s i in
+    let later : List (ℕ × ℕ) = releasesFrom x i (number + 1) k (r .state) in
+    cond (eqb (r .released) 0) later ((number, r .released) ∷ later)
+
+-- The same of the first k ticks since power-up.
+unfoldable pub releases : Site → Input → ℕ → List (ℕ × ℕ)
+releases x i k = releasesFrom x i 1 k (powerUpOf x .state)
