@@ -1,8 +1,8 @@
 // The printed lines. Each word of a line stands behind a blank but the first.
-use libc::STDOUT_FILENO;
-use lanes::Lanes;
 use group::Group;
 use group::Indications;
+use lanes::Lanes;
+use libc::STDOUT_FILENO;
 use period::Counts;
 use period::Periods;
 use state::State;
