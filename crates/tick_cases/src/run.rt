@@ -30,79 +30,44 @@ const POWER_UP: u16 = 5;
 
 const POLL: u16 = 6;
 
-fn with_site(run: Run, site: Site) -> Run {
-    let given = run.given;
-    let state = run.state;
-    let printed = run.printed;
-    Run {
-        given,
-        site,
-        state,
-        printed,
-    }
-}
-
-fn with_state(run: Run, state: State) -> Run {
-    let given = run.given;
-    let site = run.site;
-    let printed = run.printed;
-    Run {
-        given,
-        site,
-        state,
-        printed,
-    }
-}
-
-fn with_printed(run: Run, printed: Line) -> Run {
-    let given = run.given;
-    let site = run.site;
-    let state = run.state;
-    Run {
-        given,
-        site,
-        state,
-        printed,
-    }
-}
-
 // The state is that of power-up at the present site.
-fn power_up(run: Run) -> Run {
+fn power_up(mut run: Run) -> Run {
     let site = run.site;
     let powered = tick::power_up(site);
     let state = powered.state;
     print::powered(powered.refusal);
     print::state(state);
-    with_state(run, state)
+    run.state = state;
+    run
 }
 
-fn run_tick(run: Run, number: u16, input: Input) -> Run {
+fn run_tick(mut run: Run, number: u16, input: Input) -> Run {
     let site = run.site;
     let before = run.state;
     let ticked = tick::tick(site, before, input);
     let after = ticked.state;
     let line = print::line_of(ticked);
     let printed = run.printed;
-    let next = with_state(run, after);
+    run.state = after;
     if ticked.released == 0 {
         if print::same(line, printed) {
-            return next;
+            return run;
         }
     }
     print::ticked(number, line);
-    with_printed(next, line)
+    run.printed = line;
+    run
 }
 
 // So many ticks, the first with this input.
-fn run_ticks(run: Run, count: u16, input: Input) -> Run {
-    let mut now = run;
+fn run_ticks(mut run: Run, count: u16, input: Input) -> Run {
     let mut done: u16 = 0;
     while done < count {
         let later = input::later(input, done);
         done += 1;
-        now = run_tick(now, done, later);
+        run = run_tick(run, done, later);
     }
-    now
+    run
 }
 
 fn ticks(run: Run, op: &[u8]) -> Run {
@@ -112,26 +77,29 @@ fn ticks(run: Run, op: &[u8]) -> Run {
     after
 }
 
-fn replace_state(run: Run, op: &[u8]) -> Run {
+fn replace_state(mut run: Run, op: &[u8]) -> Run {
     let state = input::state(op);
     print::state(state);
-    with_state(run, state)
+    run.state = state;
+    run
 }
 
 // One timing of the present site is set to any value.
-fn damage(run: Run, op: &[u8]) -> Run {
+fn damage(mut run: Run, op: &[u8]) -> Run {
     let place = numbers::word(op, 1) as usize;
     if 15 <= place {
         return run;
     }
     let mut site = run.site;
     site.timings[place] = numbers::word(op, 2);
-    with_site(run, site)
+    run.site = site;
+    run
 }
 
-fn repair(run: Run) -> Run {
+fn repair(mut run: Run) -> Run {
     let given = run.given;
-    with_site(run, given)
+    run.site = given;
+    run
 }
 
 // The longest poll record has 60 bytes.
@@ -188,8 +156,7 @@ fn op_size(ops: &[u8]) -> usize
     size
 }
 
-fn run_ops(run: Run, ops: &[u8]) {
-    let mut now = run;
+fn run_ops(mut run: Run, ops: &[u8]) {
     let mut at: usize = 0;
     while at < ops.len() {
         let op = &ops[at..];
@@ -197,7 +164,7 @@ fn run_ops(run: Run, ops: &[u8]) {
         if size == 0 {
             return;
         }
-        now = run_op(now, op);
+        run = run_op(run, op);
         at += size;
     }
 }

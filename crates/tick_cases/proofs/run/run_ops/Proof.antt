@@ -8,10 +8,10 @@ use Rattle.tick_cases.proofs.run.run_ops.Statement.{statement}
 use Rattle.tick_cases.proofs.run.run_ops.Tie as tie
 
 abbrev Inv-loop : tie.InvT-loop
-Inv-loop ops now₀ at₀ now at = at ≤ length ops
+Inv-loop run₀ ops at₀ run at = at ≤ length ops
 
 abbrev μ-loop : tie.MeasureT-loop
-μ-loop ops now₀ at₀ now at = length ops - at
+μ-loop run₀ ops at₀ run at = length ops - at
 
 part-fits : {A : Type 0} (k : ℕ) (l : List A) (n : ℕ) → n ≤ length (take k l) → n ≤ k
 part-fits k l n h = omega (arith, h, length-take k l)

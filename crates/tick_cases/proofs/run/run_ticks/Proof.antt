@@ -5,10 +5,10 @@ use Rattle.tick_cases.proofs.run.run_ticks.Statement.{statement}
 use Rattle.tick_cases.proofs.run.run_ticks.Tie as tie
 
 abbrev Inv-loop : tie.InvT-loop
-Inv-loop count input now₀ done₀ now done = Unit {0}
+Inv-loop run₀ count input done₀ run done = Unit {0}
 
 abbrev μ-loop : tie.MeasureT-loop
-μ-loop count input now₀ done₀ now done = count - done
+μ-loop run₀ count input done₀ run done = count - done
 
 loop-holds : tie.Need-loop-holds Inv-loop μ-loop
 loop-holds c = tt
