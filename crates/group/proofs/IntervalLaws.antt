@@ -1,10 +1,10 @@
 -- Where a tick leads from each interval, and what it makes of the lanes.
-use Prim.Native.Nat.{ℕ, zero, suc, _+_, _≤_, _<_}
+use Prim.Native.Nat.{ℕ, zero, suc, _≤_}
 use mathlib.Core.Path.{_≡_, refl, sym, _∙_}
-use mathlib.Core.Bool.{Bool, true, false, cond, not, _||_, true≢false}
+use mathlib.Core.Bool.{Bool, true, false, cond, _||_, true≢false}
 use mathlib.Core.List.{List}
 use native.Mathlib.Omega.{arith}
-use borrow.Author.Tests.{ltb-true, ltb-false, eqb-true, eqb-false, le-leb}
+use borrow.Author.Tests.{ltb-true, eqb-true, eqb-false, le-leb}
 use lib.Dec.{ltb, leb, eqb}
 use Rattle.inputs.specs.declared.Metered.{Metered}
 use Rattle.wanted.specs.declared.wish.Wish.{Wish}

@@ -1,7 +1,7 @@
 -- What it tells of a group that it is in range, and that a tick keeps it so.
-use Prim.Native.Nat.{ℕ, zero, suc, _+_, _≤_, _<_}
+use Prim.Native.Nat.{ℕ, _+_, _≤_, _<_}
 use mathlib.Core.Path.{_≡_, refl, sym, _∙_}
-use mathlib.Core.Bool.{Bool, true, false, cond, not, _||_, true≢false}
+use mathlib.Core.Bool.{Bool, true, false, not, true≢false}
 use mathlib.Core.List.{List}
 use native.Mathlib.Omega.{arith}
 use borrow.Author.Tests.{lt-ltb, le-ltb, ltb-true, ltb-false, eqb-true, eqb-false, eq-eqb, ne-eqb, not-false, not-true}
@@ -14,15 +14,13 @@ use Rattle.wanted.specs.declared.wish.Wish.{Wish}
 use Rattle.lanes.specs.declared.Timings.{Timings}
 use Rattle.lanes.specs.declared.Lane.{Lane}
 use Rattle.lanes.specs.declared.Lanes.{Lanes}
-use Rattle.lanes.specs.Intervals.{lane, riseOf, passagesOf, laneTick}
+use Rattle.lanes.specs.Intervals.{lane, riseOf, laneTick}
 use Rattle.lanes.specs.Lanes.{laneOf, lanesTick, lanesEntered}
 use Rattle.lanes.proofs.LaneLaws.{by-test, rise-min, passages-most, tick-cases, lane-in, lane-out, offset-ticked, last-ticked, entered-in, entered-out, offset-entered, last-entered}
 use Rattle.release.specs.Release.{releasedOf, releaseOf}
 use Rattle.release.proofs.ReleaseLaws.{none-released, lane-goes, lane-stays, last-released, offset-released, released-in}
 use Rattle.group.specs.declared.interval.Times.{Times}
 use Rattle.group.specs.declared.Group.{Group}
-use Rattle.group.specs.declared.Moved.{Moved}
-use Rattle.group.specs.Intervals.{ageOf}
 use Rattle.group.specs.Group.{allRed, intervalOf, lanesMoved, releasedIn, groupOf, movedWith, movedOf}
 use Rattle.group.specs.Range.{colourSpoilt, laneSpoilt, laneKept, laneSpoiltAt, lanesSpoilt, groupSpoilt}
 use Rattle.group.proofs.IntervalLaws.{isOwn, age-most, lanes-cases}
@@ -243,6 +241,15 @@ module _ (times : Times) (t : Timings) (wish : Wish) (cycle : ℕ) (samples : Me
       (λ e. let q = eqb-true now 7 e in
       rw q (lanes-release s (t .lanes) (releasedOf t cycle (samples .demand) s) (released-in t cycle (samples .demand) s h) (rw q at w)))
       (λ e. rw (e, none-released s 0 refl) (rw e at w))
+
+  released-most : (now : ℕ) (s : Lanes) → releasedIn t cycle (samples .demand) now s ≤ t .lanes
+  unfolding releasedIn
+  released-most now s =
+      by-test (eqb now 7) (λ e. rw e (released-in t cycle (samples .demand) s h)) (λ e. rw e (omega arith))
+
+  pub moved-released : movedOf times t wish cycle samples g .released ≤ t .lanes
+  unfolding movedOf movedWith
+  moved-released = released-most _ _
 
   new-age : (now : ℕ) (s : Lanes) → groupOf g now s .age ≤ 36000
   unfolding groupOf

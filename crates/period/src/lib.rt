@@ -43,12 +43,6 @@ pub struct LaneCounts {
 // How many accepted ticks a period has.
 pub const TICKS_OF_A_PERIOD: u16 = 300;
 
-// No period has been completed.
-pub const NO_PERIOD: u8 = 12;
-
-// A state outside its ranges.
-pub const SPOILT_STATE: u8 = 13;
-
 // Mainline lane j's counts, the first lane being 0; all 0 past the sixth.
 pub fn lane_counts(c: Counts, j: u16) -> LaneCounts
     ensures { λ r. ⌜ r ≡ laneOf c j ⌝ }

@@ -12,6 +12,7 @@ use Rattle.output.proofs.SetsLaws.{sets-append}
 use Rattle.site.specs.declared.Site.{Site}
 use Rattle.site.specs.Record.{spoiltSite}
 use Rattle.period.specs.declared.Periods.{Periods}
+use Rattle.state.specs.declared.State.{State}
 use Rattle.poll.specs.Poll.{meteredRow, mainlineRow, rowsFrom, pollWords, refusalOf}
 use Rattle.poll.proofs.RowLaws.{length-rows}
 
@@ -49,10 +50,10 @@ module _ (p : Periods) (n m : ℕ) where
       ∙ ap (sets o 0) (sym is-parts)
 
 -- A poll that no check refuses has a site that is not spoilt.
-site-case : (x : Site) (p : Periods) (a : Bool) → spoiltSite x ≡ a → refusalOf x p ≡ 0 → spoiltSite x ≡ false
+site-case : (x : Site) (s : State) (a : Bool) → spoiltSite x ≡ a → refusalOf x s ≡ 0 → spoiltSite x ≡ false
 unfolding refusalOf
-site-case x p true e h = let y = rw e at h in absurd (omega arith)
-site-case x p false e h = e
+site-case x s true e h = let y = rw e at h in absurd (omega arith)
+site-case x s false e h = e
 
-pub site-sound : (x : Site) (p : Periods) → refusalOf x p ≡ 0 → spoiltSite x ≡ false
-site-sound x p h = site-case x p _ refl h
+pub site-sound : (x : Site) (s : State) → refusalOf x s ≡ 0 → spoiltSite x ≡ false
+site-sound x s h = site-case x s _ refl h

@@ -12,7 +12,8 @@ use Rattle.site.specs.Record.{meteredLanes, mainlineLanes, spoiltSite}
 use Rattle.period.specs.declared.Counts.{Counts}
 use Rattle.period.specs.declared.Periods.{Periods}
 use Rattle.period.specs.Counts.{laneOf, goodOf}
-use Rattle.period.specs.Range.{periodsSpoilt}
+use Rattle.state.specs.declared.State.{State}
+use Rattle.state.specs.State.{stateSpoilt}
 
 -- A metered lane's numbers, and a mainline lane's.
 abbrev pub meteredRow : Counts → ℕ → List ℕ
@@ -32,9 +33,10 @@ pollWords p n m =
     (p .serial / 65536) ∷ (p .serial % 65536) ∷ n ∷ (rowsFrom (meteredRow (p .last)) 0 n ++ (m ∷ rowsFrom (mainlineRow (p .last)) 0 m))
 
 -- The record.
-abbrev pub pollOf : Site → Periods → List ℕ
-pollOf x p = bytes (pollWords p (meteredLanes x) (mainlineLanes x))
+abbrev pub pollOf : Site → State → List ℕ
+pollOf x s = bytes (pollWords (s .periods) (meteredLanes x) (mainlineLanes x))
 
 -- "A poll record checks 14, 13, 12, 11": these are the first three.
-unfoldable pub refusalOf : Site → Periods → ℕ
-refusalOf x p = cond (spoiltSite x) 14 (cond (periodsSpoilt p (meteredLanes x) (mainlineLanes x)) 13 (cond (eqb (p .serial) 0) 12 0))
+unfoldable pub refusalOf : Site → State → ℕ
+refusalOf x s =
+    cond (spoiltSite x) 14 (cond (stateSpoilt s (meteredLanes x) (mainlineLanes x)) 13 (cond (eqb (s .periods .serial) 0) 12 0))

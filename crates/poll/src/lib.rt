@@ -14,6 +14,10 @@ use period::Counts;
 use period::LaneCounts;
 use period::Periods;
 use site::Site;
+use state::State;
+
+// No period has been completed.
+pub const NO_PERIOD: u8 = 12;
 
 // 1 for a good lane, else 0.
 fn good_number(lane: LaneCounts) -> u16
@@ -80,27 +84,27 @@ fn record_size(n: u16, m: u16) -> usize
 }
 
 // Which check refuses the poll, or 0.
-fn refusal(site: Site, periods: Periods) -> u8
-    ensures { λ r. ⌜ r ≡ refusalOf site periods ⌝ }
+fn refusal(site: Site, state: State) -> u8
+    ensures { λ r. ⌜ r ≡ refusalOf site state ⌝ }
 {
     if site::spoilt(site) {
         return site::SPOILT_SITE;
     }
-    if period::periods_spoilt(periods, site.timings[0], site.timings[14]) {
-        return period::SPOILT_STATE;
+    if state::spoilt(state, site.timings[0], site.timings[14]) {
+        return state::SPOILT_STATE;
     }
-    if periods.serial == 0 {
-        return period::NO_PERIOD;
+    if state.periods.serial == 0 {
+        return NO_PERIOD;
     }
     0
 }
 
 // Writes the record of the last completed period to the front of out.
-pub fn poll(site: Site, periods: Periods, out: &mut [u8]) -> Written
-    ensures answer { λ r. ⌜ r ≡ answerOf (refusalOf site periods) (pollOf site periods) (now (out .entry)) ⌝ }
-    ensures buffer { λ _. ⌜ now (out .exit) ≡ bufferOf (refusalOf site periods) (pollOf site periods) (now (out .entry)) ⌝ }
+pub fn poll(site: Site, state: State, out: &mut [u8]) -> Written
+    ensures answer { λ r. ⌜ r ≡ answerOf (refusalOf site state) (pollOf site state) (now (out .entry)) ⌝ }
+    ensures buffer { λ _. ⌜ now (out .exit) ≡ bufferOf (refusalOf site state) (pollOf site state) (now (out .entry)) ⌝ }
 {
-    let refused = refusal(site, periods);
+    let refused = refusal(site, state);
     if refused != 0 {
         return output::refused_write(refused);
     }
@@ -110,6 +114,7 @@ pub fn poll(site: Site, periods: Periods, out: &mut [u8]) -> Written
     if out.len() < size {
         return output::refused_write(output::SMALL_BUFFER);
     }
+    let periods = state.periods;
     store_record(periods, n, m, out);
     output::accepted_write(size)
 }

@@ -1,7 +1,6 @@
 -- What is rounded up: cycles and offsets.
-use Prim.Native.Nat.{ℕ, zero, _+_, _-_, _*_, _/_, _≤_, _<_}
+use Prim.Native.Nat.{ℕ, _+_, _-_, _*_, _/_, _≤_, _<_}
 use mathlib.Core.Path.{_≡_, refl}
-use mathlib.Core.Bool.{true, false}
 use native.Mathlib.Omega.{arith}
 use native.Mathlib.Nat.{add-mul, one-mul, mul-one, mul-le-mul-left, div-lt-iff-lt-mul, le-div-iff-mul-le, div-mul-le-self}
 use borrow.Author.Tests.{ne-eqb}

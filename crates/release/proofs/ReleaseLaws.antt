@@ -1,10 +1,10 @@
 -- What a release does to a lane, and what it tells of the lane that was released.
 use Prim.Native.Nat.{ℕ, zero, suc, _+_, _-_, _≤_, _<_}
 use mathlib.Core.Path.{_≡_, refl, sym, _∙_}
-use mathlib.Core.Bool.{Bool, true, false, cond, _&&_, true≢false}
+use mathlib.Core.Bool.{Bool, true, false, _&&_, true≢false}
 use mathlib.Core.List.{List}
 use native.Mathlib.Omega.{arith}
-use borrow.Author.Tests.{leb-true, eqb-true, eqb-false, eq-eqb, ne-eqb, le-leb}
+use borrow.Author.Tests.{leb-true, eqb-true, eq-eqb, ne-eqb, le-leb}
 use lib.Dec.{leb, eqb}
 use lib.ListN.{getD}
 use Rattle.lanes.specs.declared.Timings.{Timings}
@@ -13,7 +13,7 @@ use Rattle.lanes.specs.declared.Lanes.{Lanes}
 use Rattle.lanes.specs.Intervals.{lane}
 use Rattle.lanes.specs.Lanes.{laneOf, lanesOf}
 use Rattle.lanes.proofs.LaneLaws.{by-test}
-use Rattle.release.specs.Release.{isReady, readyAt, mayRelease, firstAfter, releasedOf, greenIf, releaseOf}
+use Rattle.release.specs.Release.{isReady, readyAt, mayRelease, releasedOf, greenIf, releaseOf}
 use Rattle.release.proofs.TurnLaws.{first-in, first-holds}
 
 -- Lane i after the release of a lane, or of none.

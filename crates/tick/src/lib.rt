@@ -1,5 +1,6 @@
 // Power-up, and the tick: one call per tenth of a second.
 ghost use mathlib.Core.Path.{_≡_};
+ghost use Prim.Native.Nat.{_*_};
 ghost use mathlib.Core.Bool.{false};
 ghost use Rattle.site.specs.Record.{meteredLanes, mainlineLanes};
 ghost use Rattle.state.specs.State.{stateSpoilt};
@@ -77,13 +78,20 @@ fn timings_of(site: Site) -> Timings
     }
 }
 
+// Minutes in ticks.
+fn minutes(x: u16) -> u32
+    ensures { λ r. ⌜ r ≡ 600 * x ⌝ }
+{
+    600 * (x as u32)
+}
+
 // The times of the group's intervals.
 fn times_of(site: Site) -> Times
     ensures { λ r. ⌜ r ≡ timesOf site ⌝ }
 {
     Times {
         shortest: site.timings[13],
-        longest: 600 * (site.timings[12] as u32),
+        longest: minutes(site.timings[12]),
         warning: site.timings[7],
         green: site.timings[8],
         yellow: site.timings[9],

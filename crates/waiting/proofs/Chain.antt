@@ -2,10 +2,10 @@
 -- released lane's cycle counter equals the offset counter.
 use Prim.Native.Nat.{ℕ, _+_, _-_, _≤_, _<_}
 use mathlib.Core.Path.{_≡_, refl, sym, _∙_, ap}
-use mathlib.Core.Bool.{Bool, true, false, not, true≢false}
+use mathlib.Core.Bool.{Bool, true, false, true≢false}
 use mathlib.Core.List.{List}
 use native.Mathlib.Omega.{arith}
-use borrow.Author.Tests.{eqb-true, eqb-false, eq-eqb, ne-eqb, not-true}
+use borrow.Author.Tests.{eqb-true, eqb-false, eq-eqb, not-true}
 use lib.Dec.{eqb}
 use lib.ListN.{getD}
 use Rattle.loops.specs.Any.{anyFrom}
@@ -15,16 +15,16 @@ use Rattle.wanted.specs.declared.wish.Wish.{Wish}
 use Rattle.lanes.specs.declared.Timings.{Timings}
 use Rattle.lanes.specs.declared.Lane.{Lane}
 use Rattle.lanes.specs.declared.Lanes.{Lanes}
-use Rattle.lanes.specs.Intervals.{riseOf, laneTick}
+use Rattle.lanes.specs.Intervals.{riseOf}
 use Rattle.lanes.specs.Lanes.{laneOf, lanesTick, lanesEntered}
 use Rattle.lanes.proofs.LaneLaws.{by-test, tick-counter, lane-in, offset-ticked, last-ticked, entered-in, offset-entered, last-entered}
 use Rattle.release.specs.Release.{anyGreen, mayRelease, releasedOf, releaseOf}
 use Rattle.release.proofs.ReleaseLaws.{none-released, lane-goes, lane-stays, last-released, offset-released, released-in, may-release}
 use Rattle.group.specs.declared.interval.Times.{Times}
 use Rattle.group.specs.declared.Group.{Group}
-use Rattle.group.specs.Group.{intervalOf, lanesMoved, releasedIn, groupOf, movedWith, movedOf}
-use Rattle.group.proofs.IntervalLaws.{isOwn, lanes-cases}
-use Rattle.group.proofs.RangeLaws.{LanesGood, GroupGood, moved-lanes}
+use Rattle.group.specs.Group.{lanesMoved, releasedIn, groupOf, movedWith, movedOf}
+use Rattle.group.proofs.IntervalLaws.{lanes-cases}
+use Rattle.group.proofs.RangeLaws.{LanesGood, GroupGood}
 use Rattle.waiting.proofs.LaneRank.{Sound, was-green}
 
 -- The cycle counter of lane k, from 1.

@@ -1,11 +1,11 @@
 -- The rank of the whole group: it falls at each tick that ends in metering and does not release the waiting lane. And what the lamps show
 -- at its release, and showed before.
-use Prim.Native.Nat.{ℕ, _+_, _-_, _*_, _≤_, _<_, max}
-use mathlib.Core.Path.{_≡_, refl, sym, _∙_, ap}
-use mathlib.Core.Bool.{Bool, true, false, cond, true≢false}
+use Prim.Native.Nat.{ℕ, _+_, _-_, _≤_, _<_, max}
+use mathlib.Core.Path.{_≡_, _∙_}
+use mathlib.Core.Bool.{true, false, cond, true≢false}
 use mathlib.Core.List.{List}
 use native.Mathlib.Omega.{arith}
-use borrow.Author.Tests.{leb-true, leb-false, eqb-true, eqb-false, eq-eqb, ne-eqb, lt-ltb}
+use borrow.Author.Tests.{leb-true, leb-false, eqb-true, eq-eqb, lt-ltb}
 use lib.Dec.{leb, eqb}
 use lib.ListN.{getD}
 use Rattle.inputs.specs.declared.Metered.{Metered}
@@ -23,8 +23,8 @@ use Rattle.group.specs.Intervals.{fromMetering}
 use Rattle.group.specs.Group.{intervalOf, lanesMoved, releasedIn, groupOf, movedWith, movedOf}
 use Rattle.group.specs.Indications.{colourShown, laneShown}
 use Rattle.group.proofs.IntervalLaws.{isOwn, lanes-cases}
-use Rattle.group.proofs.RangeLaws.{LanesGood, GroupGood, lanes-enter, lanes-release}
-use Rattle.waiting.specs.Bound.{turnTicks, waitingBound}
+use Rattle.group.proofs.RangeLaws.{GroupGood, lanes-enter, lanes-release}
+use Rattle.waiting.specs.Bound.{waitingBound}
 use Rattle.waiting.proofs.LaneRank.{Sound, redIn, readyIn, was-red}
 use Rattle.waiting.proofs.Chain.{Chain, chain-enter, chain-release}
 use Rattle.waiting.proofs.Rank.{dueRank, lanesRank, due-most, rank-most, rank-falls}
@@ -134,11 +134,11 @@ module _ (t : Timings) (ok : Sound t) (c : ℕ) (j : ℕ) (hj : j < t .lanes) wh
         (λ e. let z : _≡_ {A = ℕ} 0 (j + 1) = eqb-true 0 (j + 1) (rw e at hit) in absurd (omega arith))
 
     -- At the tick that releases the lane its lamps show green, and before it they showed red.
-    pub shown-red : eqb (movedOf times t wish cycle samples g .released) (j + 1) ≡ true → laneShown g (t .lanes) j ≡ 1
+    pub shown-red : eqb (movedOf times t wish cycle samples g .released) (j + 1) ≡ true → (g .interval ≡ 7) × (laneShown g (t .lanes) j ≡ 1)
     unfolding movedOf movedWith laneShown colourShown
     shown-red hit =
         let p = lane-was-red (in-metering now moved hit) hit in
-        rw (lt-ltb j (t .lanes) hj, p .0, p .1)
+        (p .0, rw (lt-ltb j (t .lanes) hj, p .0, p .1))
 
     pub shown-green : eqb (movedOf times t wish cycle samples g .released) (j + 1) ≡ true
         → laneShown (movedOf times t wish cycle samples g .group) (t .lanes) j ≡ 3

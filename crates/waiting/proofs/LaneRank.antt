@@ -1,13 +1,13 @@
 -- How long one lane still takes until it is ready, and how long it stays green; a tick shortens both.
-use Prim.Native.Nat.{ℕ, _+_, _-_, _*_, _≤_, _<_, max, min}
-use mathlib.Core.Path.{_≡_, refl, sym, _∙_}
-use mathlib.Core.Bool.{Bool, true, false, cond, true≢false}
+use Prim.Native.Nat.{ℕ, _+_, _-_, _≤_, _<_, max}
+use mathlib.Core.Path.{_≡_}
+use mathlib.Core.Bool.{true, false, cond}
 use native.Mathlib.Omega.{arith}
-use borrow.Author.Tests.{eqb-true, eqb-false, eq-eqb, ne-eqb}
-use lib.Dec.{leb, eqb}
+use borrow.Author.Tests.{eqb-false, eq-eqb, ne-eqb}
+use lib.Dec.{eqb}
 use Rattle.lanes.specs.declared.Timings.{Timings}
 use Rattle.lanes.specs.declared.Lane.{Lane}
-use Rattle.lanes.specs.Intervals.{lane, riseOf, passagesOf, laneTick}
+use Rattle.lanes.specs.Intervals.{lane, riseOf, laneTick}
 use Rattle.lanes.proofs.LaneLaws.{by-test, rise-min, tick-cases, tick-counter}
 use Rattle.group.proofs.RangeLaws.{LaneGood}
 

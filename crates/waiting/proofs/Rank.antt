@@ -1,27 +1,25 @@
 -- How long a waiting lane is passed over at the most: a number that falls at each tick in metering that does not release it.
-use Prim.Native.Nat.{ℕ, _+_, _-_, _*_, _≤_, _<_, max, min}
-use mathlib.Core.Path.{_≡_, refl, sym, _∙_, ap, subst}
+use Prim.Native.Nat.{ℕ, _+_, _-_, _*_, _≤_, _<_, max}
+use mathlib.Core.Path.{_≡_, sym, _∙_, ap, subst}
 use mathlib.Core.Bool.{Bool, true, false, cond, not, true≢false}
 use mathlib.Core.List.{List}
 use native.Mathlib.Omega.{arith}
 use native.Mathlib.Nat.{add-mul, one-mul, mul-one, mul-le-mul-left, mul-le-mul-right}
-use borrow.Author.Tests.{leb-true, leb-false, eqb-true, eqb-false, eq-eqb, ne-eqb, le-leb, not-false}
+use borrow.Author.Tests.{leb-true, leb-false, eqb-true, eq-eqb, ne-eqb, le-leb, not-false}
 use lib.Dec.{leb, eqb}
 use lib.ListN.{getD}
-use Rattle.loops.specs.Any.{anyFrom}
 use Rattle.loops.proofs.AnyLaws.{any-of-none}
 use Rattle.lanes.specs.declared.Timings.{Timings}
-use Rattle.lanes.specs.declared.Lane.{Lane}
 use Rattle.lanes.specs.declared.Lanes.{Lanes}
 use Rattle.lanes.specs.Intervals.{lane, riseOf, laneTick}
-use Rattle.lanes.specs.Lanes.{laneOf, lanesTick, lanesEntered}
-use Rattle.lanes.proofs.LaneLaws.{by-test, rise-min, lane-in, offset-ticked, last-ticked, entered-in}
+use Rattle.lanes.specs.Lanes.{laneOf, lanesTick}
+use Rattle.lanes.proofs.LaneLaws.{by-test, rise-min, lane-in, offset-ticked, last-ticked}
 use Rattle.release.specs.Cycle.{roundedUp, offsetTicks}
-use Rattle.release.specs.Release.{anyGreen, mayRelease, readyAt, firstAfter, releasedOf, releaseOf}
+use Rattle.release.specs.Release.{anyGreen, mayRelease, readyAt, releasedOf, releaseOf}
 use Rattle.release.proofs.TurnLaws.{turns, turns-in, turns-most, Nearer, first-nearer}
 use Rattle.release.proofs.CycleLaws.{up-most, up-least, up-grows}
-use Rattle.release.proofs.ReleaseLaws.{none-released, lane-goes, lane-stays, last-released, offset-released, released-in, may-release, is-ready}
-use Rattle.group.proofs.RangeLaws.{LaneGood, LanesGood, lanes-keep, lanes-release}
+use Rattle.release.proofs.ReleaseLaws.{none-released, lane-stays, last-released, released-in, may-release, is-ready}
+use Rattle.group.proofs.RangeLaws.{LanesGood, lanes-keep, lanes-release}
 use Rattle.waiting.specs.Bound.{turnTicks, waitingBound}
 use Rattle.waiting.proofs.LaneRank.{Sound, readyIn, greenFor, ready-falls, green-falls, due, due-parts, due-not-green, ready-in-most, green-most}
 use Rattle.waiting.proofs.Chain.{Chain, chain-tick, chain-release}

@@ -1,22 +1,16 @@
 -- Document 01, 'Day and entry', 'What is wanted': what a clock, two commands and the periods decide at a site.
 use Prim.Native.Nat.{ℕ, _/_}
-use mathlib.Core.Bool.{cond}
-use lib.Dec.{eqb}
 use Rattle.site.specs.declared.Site.{Site}
-use Rattle.site.specs.Record.{meteredLanes, mainlineLanes, spoiltSite}
+use Rattle.site.specs.Record.{mainlineLanes}
 use Rattle.calendar.specs.declared.clock.Clock.{Clock}
 use Rattle.calendar.specs.Holidays.{dayTypeOf}
-use Rattle.calendar.specs.Clock.{clockBad}
 use Rattle.plan.specs.InForce.{inForceOf}
 use Rattle.inputs.specs.declared.Command.{Command}
-use Rattle.inputs.specs.Commands.{commandsBad}
 use Rattle.period.specs.declared.Periods.{Periods}
-use Rattle.period.specs.Range.{periodsSpoilt}
 use Rattle.wanted.specs.declared.wish.Choice.{Choice}
 use Rattle.wanted.specs.declared.wish.Wish.the-variants.{Dark}
 use Rattle.wanted.specs.declared.wish.Source.the-variants.{Plan}
 use Rattle.wanted.specs.declared.Decision.{Decision}
-use Rattle.wanted.specs.declared.Decided.{Decided}
 use Rattle.wanted.specs.Wish.{plannedOf, rulingOf, sourceOf, choiceOf}
 
 unfoldable pub dayOf : Site → Clock → ℕ
@@ -34,17 +28,6 @@ decisionOf x clock manual centre p =
     let c : Choice = choiceOf (commandInForce x clock manual centre) (x .tables) (x .levels) (mainlineLanes x) p in
     record { day = dayOf x clock; entry = entryInForce x clock; source = sourceOf manual centre; level = c .level; wish = c .wish }
 
--- Site, periods, clock and commands are checked in the order of a tick: 14, 13, 8, 10.
-unfoldable pub refusalOf : Site → Clock → Command → Command → Periods → ℕ
-refusalOf x clock manual centre p =
-    cond (spoiltSite x) 14
-    (cond (periodsSpoilt p (meteredLanes x) (mainlineLanes x)) 13 (cond (clockBad clock) 8 (cond (commandsBad manual centre) 10 0)))
-
+-- Where nothing is decided: no entry, dark.
 abbrev pub noDecision : Decision
 noDecision = record { day = 0; entry = 0; source = Plan; level = 0; wish = Dark }
-
-unfoldable pub decidedOf : Site → Clock → Command → Command → Periods → Decided
-decidedOf x clock manual centre p = record {
-  refusal = refusalOf x clock manual centre p;
-  decision = cond (eqb (refusalOf x clock manual centre p) 0) (decisionOf x clock manual centre p) noDecision;
-}

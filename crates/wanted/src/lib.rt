@@ -4,7 +4,7 @@ mod wish;
 ghost use mathlib.Core.Path.{_≡_};
 ghost use Prim.Native.Nat.{_≤_};
 ghost use Rattle.wanted.specs.Wish.{rateOf};
-ghost use Rattle.wanted.specs.Decision.{dayOf, entryInForce, decisionOf, refusalOf, noDecision, decidedOf};
+ghost use Rattle.wanted.specs.Decision.{dayOf, entryInForce, decisionOf, noDecision};
 use calendar::Clock;
 use inputs::Command;
 use period::Periods;
@@ -20,11 +20,6 @@ pub struct Decision {
     pub source: Source,
     pub level: u16,
     pub wish: Wish,
-}
-
-pub struct Decided {
-    pub refusal: u8,
-    pub decision: Decision,
 }
 
 // The rate of a wish; 0 for none.
@@ -83,24 +78,7 @@ pub fn wanted_now(
     }
 }
 
-fn refusal_of(site: Site, clock: Clock, manual: Command, centre: Command, p: Periods) -> u8
-    ensures { λ r. ⌜ r ≡ refusalOf site clock manual centre p ⌝ }
-{
-    if site::spoilt(site) {
-        return site::SPOILT_SITE;
-    }
-    if period::periods_spoilt(p, site.timings[0], site.timings[14]) {
-        return period::SPOILT_STATE;
-    }
-    if calendar::clock_bad(clock) {
-        return calendar::BAD_CLOCK;
-    }
-    if inputs::commands_bad(manual, centre) {
-        return inputs::BAD_COMMAND;
-    }
-    0
-}
-
+// Where nothing is decided: that of no entry, dark.
 pub fn no_decision() -> Decision
     ensures { λ r. ⌜ r ≡ noDecision ⌝ }
 {
@@ -110,22 +88,5 @@ pub fn no_decision() -> Decision
         source: Source::Plan,
         level: 0,
         wish: Wish::Dark,
-    }
-}
-
-// What is decided, or why it is not: the decision is then that of no entry, dark.
-pub fn decide(site: Site, clock: Clock, manual: Command, centre: Command, p: Periods) -> Decided
-    ensures { λ r. ⌜ r ≡ decidedOf site clock manual centre p ⌝ }
-{
-    let refusal = refusal_of(site, clock, manual, centre, p);
-    if refusal != 0 {
-        return Decided {
-            refusal,
-            decision: no_decision(),
-        };
-    }
-    Decided {
-        refusal: 0,
-        decision: wanted_now(site, clock, manual, centre, p),
     }
 }

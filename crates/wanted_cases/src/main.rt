@@ -3,15 +3,22 @@
 mod input;
 mod print;
 
-use period::Periods;
 use site::Site;
+use state::State;
 
 // The longest poll record has 60 bytes.
-fn print_poll(site: Site, periods: Periods) {
+fn print_poll(site: Site, state: State) {
     let mut out = [0u8; 64];
-    let written = poll::poll(site, periods, &mut out);
+    let written = poll::poll(site, state, &mut out);
     let n = written.count;
     print::polled(written.refusal, &out[..n]);
+}
+
+// A group at power-up, and the case's periods.
+fn state_of(site: Site, rest: &[u8]) -> State {
+    let mut state = state::fresh(site.timings[0]);
+    state.periods = input::periods(rest);
+    state
 }
 
 // The rest of a case, at a site.
@@ -19,11 +26,11 @@ fn answer_at(site: Site, rest: &[u8]) {
     let clock = input::clock(rest);
     let manual = input::command(rest, 5);
     let centre = input::command(rest, 8);
-    let periods = input::periods(rest);
-    let decided = wanted::decide(site, clock, manual, centre, periods);
+    let state = state_of(site, rest);
+    let decided = decide::decide(site, state, clock, manual, centre);
     let decision = decided.decision;
     print::decided(decided.refusal, decision, site.timings[2]);
-    print_poll(site, periods);
+    print_poll(site, state);
 }
 
 fn answer_case(file: &[u8], rest: &[u8]) {

@@ -19,14 +19,14 @@ use Rattle.poll.proofs.poll.Tie as tie
 sized : (s : tie.Start) → Sized (s .args .t1)
 sized s = record { timings = search needs; plan = search needs; dates = search needs; tables = search needs }
 
-not-refused : (c : tie.Else1) → refusalOf (c .before .before .before .args .t1) (c .before .before .before .args .periods) ≡ 0
+not-refused : (c : tie.Else1) → refusalOf (c .before .before .before .args .t1) (c .before .before .before .args .state) ≡ 0
 not-refused c = sym (c .before .refusal .ensures) ∙ c .if1 .left
 
 -- The size that was computed is the record's.
-is-size : (c : tie.After-record-size) → c .record-size .result ≡ length (pollOf (c .before .before .before .before .before .before .args .t1) (c .before .before .before .before .before .before .args .periods))
+is-size : (c : tie.After-record-size) → c .record-size .result ≡ length (pollOf (c .before .before .before .before .before .before .args .t1) (c .before .before .before .before .before .before .args .state))
 is-size c =
     let a = c .before .before .before .before .before .before .args in
-    c .record-size .ensures ∙ sym (length-poll (a .periods) (meteredLanes (a .t1)) (mainlineLanes (a .t1)))
+    c .record-size .ensures ∙ sym (length-poll (a .state .periods) (meteredLanes (a .t1)) (mainlineLanes (a .t1)))
 
 refusal-requires : tie.Need-refusal-requires
 refusal-requires c κs = search needs
@@ -38,7 +38,7 @@ returns : tie.Need-returns
 returns c =
     let r = c .before .before in
     let a = r .before .before .args in
-    let o = earlier-refused (r .refusal .result) (pollOf (a .t1) (a .periods)) (now (a .out)) (c .before .if1 .taken) in
+    let o = earlier-refused (r .refusal .result) (pollOf (a .t1) (a .state)) (now (a .out)) (c .before .if1 .taken) in
     rw (← r .refusal .ensures) (c .refused-write .ensures ∙ o .answers, o .leaves)
 
 element-copy-out-n : tie.Need-element-copy-out-n
@@ -57,15 +57,15 @@ returns-2 : tie.Need-returns-2
 returns-2 c =
     let s = c .before .before in
     let a = s .before .before .before .before .before .before .args in
-    let o = too-small (pollOf (a .t1) (a .periods)) (now (a .out)) (omega (arith, is-size s)) in
+    let o = too-small (pollOf (a .t1) (a .state)) (now (a .out)) (omega (arith, is-size s)) in
     rw (not-refused (s .before .before .before)) (c .refused-write2 .ensures ∙ o .answers, o .leaves)
 
 store-record-requires : tie.Need-store-record-requires
 store-record-requires c κs =
-    let s = c .before .before in
+    let s = c .before .before .before in
     let e = s .before .before .before in
     let b = e .before .before .before in
-    (most-metered (b .args .t1) (sized b) (site-sound (b .args .t1) (b .args .periods) (not-refused e)), omega (arith, s .record-size .ensures))
+    (most-metered (b .args .t1) (sized b) (site-sound (b .args .t1) (b .args .state) (not-refused e)), omega (arith, s .record-size .ensures))
 
 accepted-write-requires : tie.Need-accepted-write-requires
 accepted-write-requires c κs = search needs
@@ -76,13 +76,13 @@ same-length c = search needs
 returns-3 : tie.Need-returns-3
 returns-3 c =
     let p = c .before .before .before in
-    let s = p .before .before .before in
+    let s = p .before .before .before .before in
     let a = s .before .before .before .before .before .before .args in
-    let text = pollOf (a .t1) (a .periods) in
+    let text = pollOf (a .t1) (a .state) in
     let fits : length text ≤ length (now (a .out)) = omega (arith, is-size s) in
     let o = accepted text (now (a .out)) fits in
     rw (not-refused (s .before .before .before))
-    (c .accepted-write .ensures ∙ ap acceptedWrite (is-size s) ∙ o .answers, p .store-record .ensures ∙ over-front text (now (a .out)) fits ∙ o .leaves)
+    (c .accepted-write .ensures ∙ ap acceptedWrite (is-size s) ∙ o .answers, rw (p .store-record .ensures, over-front text (now (a .out)) fits) (o .leaves))
 
 pub poll-spec : {M : Type 1} → statement M
 poll-spec =

@@ -1,0 +1,51 @@
+// What is decided, asked for: by whoever wants to know, at a state as it stands.
+ghost use mathlib.Core.Path.{_≡_};
+ghost use Rattle.decide.specs.Decide.{refusalOf, decidedOf};
+use calendar::Clock;
+use inputs::Command;
+use site::Site;
+use state::State;
+use wanted::Decision;
+
+// The refusal, or 0; what is decided.
+pub struct Decided {
+    pub refusal: u8,
+    pub decision: Decision,
+}
+
+// Which check refuses to decide, or 0.
+fn refusal_of(site: Site, state: State, clock: Clock, manual: Command, centre: Command) -> u8
+    ensures { λ r. ⌜ r ≡ refusalOf site state clock manual centre ⌝ }
+{
+    if site::spoilt(site) {
+        return site::SPOILT_SITE;
+    }
+    if state::spoilt(state, site.timings[0], site.timings[14]) {
+        return state::SPOILT_STATE;
+    }
+    if calendar::clock_bad(clock) {
+        return calendar::BAD_CLOCK;
+    }
+    if inputs::commands_bad(manual, centre) {
+        return inputs::BAD_COMMAND;
+    }
+    0
+}
+
+// What is decided, or why it is not: the decision is then that of no entry, dark.
+pub fn decide(site: Site, state: State, clock: Clock, manual: Command, centre: Command) -> Decided
+    ensures { λ r. ⌜ r ≡ decidedOf site state clock manual centre ⌝ }
+{
+    let refusal = refusal_of(site, state, clock, manual, centre);
+    if refusal != 0 {
+        return Decided {
+            refusal,
+            decision: wanted::no_decision(),
+        };
+    }
+    let periods = state.periods;
+    Decided {
+        refusal: 0,
+        decision: wanted::wanted_now(site, clock, manual, centre, periods),
+    }
+}

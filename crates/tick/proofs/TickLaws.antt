@@ -1,0 +1,105 @@
+-- What an accepted tick has been checked for, its cycle, and that it keeps the state in range.
+use Prim.Native.Nat.{ℕ, _≤_}
+use mathlib.Core.Path.{_≡_, refl}
+use mathlib.Core.Bool.{Bool, true, false, cond}
+use native.Mathlib.Omega.{arith}
+use Rattle.site.specs.declared.Site.{Site}
+use Rattle.site.specs.Record.{meteredLanes, mainlineLanes, spoiltSite}
+use Rattle.site.proofs.Sizes.{Sized}
+use Rattle.site.proofs.TimingLaws.{timings-good}
+use Rattle.calendar.specs.Clock.{clockBad}
+use Rattle.inputs.specs.Samples.{samplesBad}
+use Rattle.inputs.specs.Commands.{commandsBad}
+use Rattle.period.proofs.RangeLaws.{periods-released}
+use Rattle.wanted.specs.declared.wish.Wish.{Wish}
+use Rattle.wanted.specs.declared.wish.Wish.the-variants.{Dark, Green, Metering, Clear}
+use Rattle.wanted.specs.Wish.{rateOf}
+use Rattle.wanted.proofs.RateLaws.{WishGood, wish-good, rate-cases}
+use Rattle.release.specs.Cycle.{cycleTicks}
+use Rattle.release.proofs.CycleLaws.{cycle-most, cycle-least, no-cycle}
+use Rattle.group.specs.Intervals.{fromMetering}
+use Rattle.group.proofs.RangeLaws.{moved-good, moved-released}
+use Rattle.state.specs.declared.State.{State}
+use Rattle.state.specs.State.{stateSpoilt}
+use Rattle.state.proofs.StateLaws.{StateGood, state-good}
+use Rattle.waiting.proofs.LaneRank.{Sound}
+use Rattle.tick.specs.declared.Input.{Input}
+use Rattle.tick.specs.Timings.{timingsOf, timesOf}
+use Rattle.tick.specs.Checks.{inputRefusal, tickRefusal}
+use Rattle.tick.specs.Tick.{countedIn, decidedIn, cycleIn, movedIn, acceptedTick}
+
+pub record Accepted (x : Site) (s : State) (i : Input) : Type 0 where
+  pub site : spoiltSite x ≡ false
+  pub state : stateSpoilt s (meteredLanes x) (mainlineLanes x) ≡ false
+  pub clock : clockBad (i .clock) ≡ false
+  pub samples : samplesBad (i .lanes) (i .main) (meteredLanes x) (mainlineLanes x) ≡ false
+  pub commands : commandsBad (i .manual) (i .centre) ≡ false
+
+-- Where a check's answer is 0, what it asks does not hold, and the rest answers 0.
+passes : (b : Bool) (k rest : ℕ) → 1 ≤ k → cond b k rest ≡ 0 → (b ≡ false) × (rest ≡ 0)
+passes true k rest h e = absurd (omega arith)
+passes false k rest h e = (refl, e)
+
+pub accepted : (x : Site) (s : State) (i : Input) → tickRefusal x s i ≡ 0 → Accepted x s i
+unfolding tickRefusal inputRefusal
+accepted x s i e =
+    let p = passes (spoiltSite x) 14 _ (omega arith) e in
+    let q = passes (stateSpoilt s (meteredLanes x) (mainlineLanes x)) 13 _ (omega arith) (p .1) in
+    let r = passes (clockBad (i .clock)) 8 _ (omega arith) (q .1) in
+    let u = passes (samplesBad (i .lanes) (i .main) (meteredLanes x) (mainlineLanes x)) 9 _ (omega arith) (r .1) in
+    let v = passes (commandsBad (i .manual) (i .centre)) 10 0 (omega arith) (u .1) in
+    record { site = p .0; state = q .0; clock = r .0; samples = u .0; commands = v .0 }
+
+-- The timings of a site that is not spoilt.
+pub sound-timings : (x : Site) → Sized x → spoiltSite x ≡ false → Sound (timingsOf x)
+unfolding timingsOf
+sound-timings x sized ok =
+    let g = timings-good x sized ok in
+    record {
+      least = g .lanes-least;
+      most = g .lanes-most;
+      some-green = omega (arith, g .green-least);
+      green = omega (arith, g .green-most);
+      some-yellow = omega (arith, g .yellow-least);
+      yellow = omega (arith, g .yellow-most);
+      some-red = omega (arith, g .red-least);
+      red = omega (arith, g .red-most);
+    }
+
+metering-cycle : (w : Wish) → WishGood w → (vehicles : ℕ) → 1 ≤ vehicles → fromMetering w ≡ 7 → 1 ≤ cycleTicks vehicles (rateOf w)
+metering-cycle Dark g v h e = absurd (omega arith)
+metering-cycle Green g v h e = absurd (omega arith)
+metering-cycle (Metering rate) g v h e = cycle-least v rate h (omega (arith, g .0))
+metering-cycle Clear g v h e = absurd (omega arith)
+
+module _ (x : Site) (sized : Sized x) (s : State) (i : Input) (a : Accepted x s i) where
+  wish-in : WishGood (decidedIn x s i .wish)
+  unfolding decidedIn
+  wish-in = wish-good x sized (a .site) (i .clock) (i .manual) (i .centre) (countedIn x s i) (a .commands)
+
+  -- Its cycle is 720 ticks at the most, and some where metering goes on.
+  pub cycle-in : cycleIn x s i ≤ 720
+  unfolding cycleIn timingsOf
+  cycle-in =
+      let g = timings-good x sized (a .site) in
+      let vehicles = timingsOf x .vehicles in
+      rate-cases (decidedIn x s i .wish) (λ r. cycleTicks vehicles r ≤ 720) wish-in (rw (no-cycle vehicles) (omega arith))
+      (λ r h. cycle-most vehicles r (g .vehicles-most) h)
+
+  pub some-cycle : fromMetering (decidedIn x s i .wish) ≡ 7 → 1 ≤ cycleIn x s i
+  unfolding cycleIn timingsOf
+  some-cycle e = metering-cycle (decidedIn x s i .wish) wish-in (timingsOf x .vehicles) (timings-good x sized (a .site) .vehicles-least) e
+
+  pub tick-keeps : StateGood (acceptedTick x s i .state) (meteredLanes x) (mainlineLanes x)
+  unfolding acceptedTick movedIn countedIn timingsOf
+  tick-keeps =
+      let n = meteredLanes x in
+      let m = mainlineLanes x in
+      let g = state-good s n m (a .state) in
+      let h = timings-good x sized (a .site) .lanes-least in
+      let wish = decidedIn x s i .wish in
+      record {
+        group = moved-good (timesOf x) (timingsOf x) wish (cycleIn x s i) (i .lanes) (s .group) h (g .group);
+        periods = periods-released (s .periods) (i .lanes) (i .main) n m _ (g .periods) (a .samples)
+            (moved-released (timesOf x) (timingsOf x) wish (cycleIn x s i) (i .lanes) (s .group) h (g .group));
+      }

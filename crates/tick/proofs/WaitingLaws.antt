@@ -1,0 +1,267 @@
+-- The waiting bound: the group's rank falls at each accepted tick of a run that does not release the waiting lane, and a refused tick changes
+-- nothing.
+use Prim.Native.Nat.{ℕ, zero, suc, _+_, _-_, _≤_, _<_, max, min}
+use mathlib.Core.Path.{_≡_, refl, sym, _∙_, ap, subst}
+use mathlib.Core.Bool.{Bool, true, false, _||_, true≢false}
+use mathlib.Core.List.{List, [], _∷_, _++_}
+use native.Mathlib.Omega.{arith}
+use native.Mathlib.Nat.{mul-le-mul-left}
+use borrow.Author.Tests.{eqb-true, eq-eqb}
+use lib.Dec.{eqb}
+use lib.ListN.{getD}
+use Rattle.site.specs.declared.Site.{Site}
+use Rattle.site.specs.Record.{meteredLanes, mainlineLanes, spoiltSite}
+use Rattle.site.proofs.Sizes.{Sized}
+use Rattle.site.proofs.TimingLaws.{timings-good}
+use Rattle.lanes.specs.declared.Timings.{Timings}
+use Rattle.lanes.proofs.LaneLaws.{by-test}
+use Rattle.release.proofs.CycleLaws.{up-grows}
+use Rattle.group.specs.declared.Group.{Group}
+use Rattle.group.specs.declared.indication.Indications.{Indications}
+use Rattle.group.specs.Indications.{laneShown, indicationsOf}
+use Rattle.group.proofs.RangeLaws.{GroupGood}
+use Rattle.state.specs.declared.State.{State}
+use Rattle.state.specs.State.{freshState}
+use Rattle.state.proofs.StateLaws.{StateGood, fresh-good}
+use Rattle.waiting.specs.Bound.{turnTicks, waitingBound}
+use Rattle.waiting.proofs.LaneRank.{Sound}
+use Rattle.waiting.proofs.Chain.{Chain, chain-enter, chain-moved}
+use Rattle.waiting.proofs.GroupRank.{groupRank, group-rank-most, group-falls, shown-red, shown-green}
+use Rattle.tick.specs.declared.Input.{Input}
+use Rattle.tick.specs.declared.Ticked.{Ticked}
+use Rattle.tick.specs.Timings.{timingsOf, timesOf}
+use Rattle.tick.specs.Checks.{tickRefusal}
+use Rattle.tick.specs.Tick.{powerUpOf, decidedIn, cycleIn, movedIn, acceptedTick, refusedTick, tickOf}
+use Rattle.tick.specs.Waiting.{Call, Course, atPowerUp, answerTo, isAccepted, onward, courseAfter, AtAccepted, acceptedTicks, Waits, greenBegins, beginsWithin, WaitingBound}
+use Rattle.tick.proofs.TickLaws.{Accepted, accepted, sound-timings, cycle-in, some-cycle, tick-keeps}
+
+-- A tick is accepted where no check refuses it, and is then what the rules make of it; a refused one leaves all as it was.
+module _ (c : Course) (call : Call) where
+  abbrev refusal : ℕ
+  refusal = tickRefusal (call .site) (c .state) (call .input)
+
+  not-refused : isAccepted c call ≡ true → refusal ≡ 0
+  unfolding isAccepted answerTo tickOf refusedTick
+  not-refused e =
+      by-test (eqb refusal 0) (λ f. eqb-true refusal 0 f) (λ f. absurd (true≢false (sym (rw f at e) ∙ f)))
+
+  answer-accepted : isAccepted c call ≡ true → answerTo c call ≡ acceptedTick (call .site) (c .state) (call .input)
+  unfolding answerTo tickOf
+  answer-accepted e = rw (eq-eqb refusal 0 (not-refused e))
+
+  was-refused : isAccepted c call ≡ false → eqb refusal 0 ≡ false
+  unfolding isAccepted answerTo tickOf acceptedTick
+  was-refused e = by-test (eqb refusal 0) (λ f. absurd (true≢false (rw f at e))) (λ f. f)
+
+  same-state : isAccepted c call ≡ false → answerTo c call .state ≡ c .state
+  unfolding answerTo tickOf refusedTick
+  same-state e = rw (was-refused e)
+
+  pub stays : isAccepted c call ≡ false → onward c call ≡ c
+  unfolding onward
+  stays e = rw (e, same-state e)
+
+-- What lane j shows.
+colours-at : (g : Group) (n j : ℕ) → j < 4 → getD (indicationsOf g n .colours) j 0 ≡ laneShown g n j
+unfolding indicationsOf
+colours-at g n zero h = refl
+colours-at g n (suc zero) h = refl
+colours-at g n (suc (suc zero)) h = refl
+colours-at g n (suc (suc (suc zero))) h = refl
+colours-at g n (suc (suc (suc (suc j)))) h = absurd (omega arith)
+
+-- Something at each accepted tick of two lists, one behind the other.
+split-run : (P : Course → Call → Type 0) (c : Course) (before run : List Call) → AtAccepted P c (before ++ run)
+    → AtAccepted P c before × AtAccepted P (courseAfter c before) run
+split-run P c [] run a = (tt, a)
+split-run P c (call ∷ before) run a =
+    let p = split-run P (onward c call) before run (a .1) in
+    ((a .0, p .0), p .1)
+
+-- The bound grows with the cycle.
+bound-grows : (t : Timings) → Sound t → (a b : ℕ) → a ≤ b → waitingBound t a ≤ waitingBound t b
+unfolding waitingBound turnTicks
+bound-grows t ok a b h =
+    by-test (eqb (t .mode) 1)
+    (λ m. rw m (both (mul-le-mul-left (t .lanes - 1) (up-grows (t .lanes) (ok .least) a b h))))
+    (λ m. rw m (omega arith))
+  where
+    both : {x y : ℕ} → x ≤ y → max a (t .maxgreen + t .yellow + t .minred) + x ≤ max b (t .maxgreen + t .yellow + t .minred) + y
+    both p = omega arith
+
+module _ (x : Site) (sized : Sized x) (ok : spoiltSite x ≡ false) where
+  abbrev t : Timings
+  t = timingsOf x
+
+  sound : Sound (timingsOf x)
+  sound = sound-timings x sized ok
+
+  -- What holds since power-up. Once the group is in metering, the lamps last shown are those of the state.
+  record Going (c : Course) : Type 0 where
+    good : StateGood (c .state) (meteredLanes x) (mainlineLanes x)
+    chain : Chain (timingsOf x) (c .state .group .lanes)
+    lamps : c .state .group .interval ≡ 7 → c .shown ≡ indicationsOf (c .state .group) (meteredLanes x)
+
+  start : Going (atPowerUp x)
+  unfolding atPowerUp powerUpOf freshState timingsOf
+  start =
+      let n = meteredLanes x in
+      let g = fresh-good n (mainlineLanes x) (timings-good x sized ok .lanes-least) in
+      rw ok (record { good = g; chain = chain-enter (timingsOf x) sound; lamps = λ z. absurd (omega arith) })
+
+  module _ (c : Course) (call : Call) (going : Going c) (same : isAccepted c call ≡ true → call .site ≡ x) where
+    -- An accepted tick, at the power-up's site.
+    passed : isAccepted c call ≡ true → Accepted x (c .state) (call .input)
+    passed e = accepted x (c .state) (call .input) (subst (λ (y : Site). tickRefusal y (c .state) (call .input) ≡ 0) (same e) (not-refused c call e))
+
+    answer : isAccepted c call ≡ true → answerTo c call ≡ acceptedTick x (c .state) (call .input)
+    answer e = answer-accepted c call e ∙ ap (λ y. acceptedTick y (c .state) (call .input)) (same e)
+
+    onward-state : isAccepted c call ≡ true → onward c call .state ≡ acceptedTick x (c .state) (call .input) .state
+    unfolding onward
+    onward-state e = ap (λ r. r .state) (answer e)
+
+    abbrev next : Course
+    next = record { state = acceptedTick x (c .state) (call .input) .state; shown = acceptedTick x (c .state) (call .input) .shown }
+
+    onward-is : isAccepted c call ≡ true → onward c call ≡ next
+    unfolding onward
+    onward-is e = rw (e, answer e)
+
+    moved-on : Accepted x (c .state) (call .input) → Going next
+    unfolding acceptedTick movedIn timingsOf
+    moved-on a =
+        let s = c .state in
+        let i = call .input in
+        record {
+          good = tick-keeps x sized s i a;
+          chain = chain-moved (timingsOf x) sound (timesOf x) (decidedIn x s i .wish) (cycleIn x s i) (i .lanes) (s .group) (going .good .group) (going .chain);
+          lamps = λ _. refl;
+        }
+
+    -- Every tick, accepted or refused, keeps it.
+    keeps : Going (onward c call)
+    keeps =
+        by-test (isAccepted c call)
+        (λ e. subst Going (sym (onward-is e)) (moved-on (passed e)))
+        (λ e. subst Going (sym (stays c call e)) going)
+
+    module _ (most : ℕ) (j : ℕ) (hj : j < meteredLanes x) (w : isAccepted c call ≡ true → Waits (j + 1) most c call) where
+      abbrev least : ℕ
+      least = min most 720
+
+      abbrev rank : Course → ℕ
+      rank d = groupRank (timingsOf x) least j (d .state .group)
+
+      -- What the tick decides and does, by the rules.
+      abbrev s : State
+      s = c .state
+
+      abbrev i : Input
+      i = call .input
+
+      in-site : j < timingsOf x .lanes
+      unfolding timingsOf
+      in-site = hj
+
+      released-is : isAccepted c call ≡ true → answerTo c call .released ≡ movedIn x s i .released
+      unfolding acceptedTick
+      released-is e = ap (λ r. r .released) (answer e)
+
+      group-is : isAccepted c call ≡ true → onward c call .state .group ≡ movedIn x s i .group
+      unfolding acceptedTick
+      group-is e = ap (λ (q : State). q .group) (onward-state e)
+
+      cycle-small : (e : isAccepted c call ≡ true) → cycleIn x s i ≤ least
+      unfolding acceptedTick
+      cycle-small e =
+          let asked : cycleIn x s i ≤ most = subst (λ (r : Ticked). r .cycle ≤ most) (answer e) (w e .cycle) in
+          omega (arith, asked, cycle-in x sized s i (passed e))
+
+      metering-after : isAccepted c call ≡ true → movedIn x s i .group .interval ≡ 7
+      unfolding acceptedTick
+      metering-after e = subst (λ (r : Ticked). r .state .group .interval ≡ 7) (answer e) (w e .metering)
+
+      demand-on : isAccepted c call ≡ true → getD (i .lanes .demand) j 0 ≡ 1
+      demand-on e = let back : j + 1 - 1 ≡ j = omega arith in rw back at (w e .demand)
+
+      -- A tick that does not release the lane brings it nearer;
+      rank-falls : (e : isAccepted c call ≡ true) → eqb (movedIn x s i .released) (j + 1) ≡ false → rank (onward c call) < rank c
+      unfolding movedIn timingsOf
+      rank-falls e miss =
+          rw (group-is e)
+          (group-falls (timingsOf x) sound least j in-site (timesOf x) (decidedIn x s i .wish) (cycleIn x s i) (i .lanes) (s .group) (going .good .group) (going .chain)
+          (omega arith) (some-cycle x sized s i (passed e)) (cycle-small e) (demand-on e) (metering-after e) miss)
+
+      -- and at one that does, its green begins.
+      begins : (e : isAccepted c call ≡ true) → eqb (movedIn x s i .released) (j + 1) ≡ true → greenBegins (j + 1) c call ≡ true
+      unfolding greenBegins acceptedTick movedIn timingsOf
+      begins e hit =
+          let back : j + 1 - 1 ≡ j = omega arith in
+          let place : j < 4 = omega (arith, timings-good x sized ok .lanes-most) in
+          let n = meteredLanes x in
+          let g = movedIn x s i .group in
+          let before = shown-red (timingsOf x) sound least j in-site (timesOf x) (decidedIn x s i .wish) (cycleIn x s i) (i .lanes) (s .group) (going .good .group) (going .chain) hit in
+          let after = shown-green (timingsOf x) sound least j in-site (timesOf x) (decidedIn x s i .wish) (cycleIn x s i) (i .lanes) (s .group) (going .good .group) (going .chain) hit in
+          let red : getD (c .shown .colours) j 0 ≡ 1 =
+          ap (λ (d : Indications). getD (d .colours) j 0) (going .lamps (before .0)) ∙ colours-at (s .group) n j place ∙ before .1 in
+          let green : getD (answerTo c call .shown .colours) j 0 ≡ 3 =
+          ap (λ (r : Ticked). getD (r .shown .colours) j 0) (answer e) ∙ colours-at g n j place ∙ after in
+          rw (back, released-is e, hit, eq-eqb (getD (answerTo c call .shown .colours) j 0) 3 green, eq-eqb (getD (c .shown .colours) j 0) 1 red)
+
+  -- A run at each of whose accepted ticks the lane waits, and that has more of them than the rank, releases it.
+  module _ (most : ℕ) (j : ℕ) (hj : j < meteredLanes x) where
+    abbrev rank-of : Course → ℕ
+    rank-of c = groupRank (timingsOf x) (min most 720) j (c .state .group)
+
+    within : (k : ℕ) (c : Course) (calls : List Call) → Going c → AtAccepted (λ c call. call .site ≡ x) c calls → AtAccepted (Waits (j + 1) most) c calls
+        → rank-of c < k → k ≤ acceptedTicks c calls → beginsWithin (j + 1) k c calls ≡ true
+    within k c [] going same waiting r l = absurd (omega arith)
+    within zero c (call ∷ calls) going same waiting r l = absurd (omega arith)
+    within (suc k) c (call ∷ calls) going same waiting r l =
+        let on = keeps c call going (same .0) in
+        by-test (isAccepted c call)
+        (λ e. by-test (eqb (movedIn x (c .state) (call .input) .released) (j + 1))
+        (λ hit. rw (e, begins c call going (same .0) most j hj (waiting .0) e hit))
+        (λ miss. rw e (or-else (greenBegins (j + 1) c call)
+        (within k (onward c call) calls on (same .1) (waiting .1) (omega (arith, rank-falls c call going (same .0) most j hj (waiting .0) e miss))
+        (one-less (rw e at l))))))
+        (λ e. rw e (within (suc k) (onward c call) calls on (same .1) (waiting .1) (rw (stays c call e) r) (no-less (rw e at l))))
+      where
+        or-else : (a : Bool) {b : Bool} → b ≡ true → (a || b) ≡ true
+        or-else true h = refl
+        or-else false h = h
+
+        one-less : {y : ℕ} → suc k ≤ 1 + y → k ≤ y
+        one-less h = omega arith
+
+        no-less : {y : ℕ} → suc k ≤ 0 + y → suc k ≤ y
+        no-less h = omega arith
+
+  -- The ticks before the run, refused ones included, keep what holds since power-up.
+  reached : (c : Course) (before : List Call) → Going c → AtAccepted (λ c call. call .site ≡ x) c before → Going (courseAfter c before)
+  reached c [] going same = going
+  reached c (call ∷ before) going same = reached (onward c call) before (keeps c call going (same .0)) (same .1)
+
+pub waiting-bound : (x : Site) → Sized x → WaitingBound x
+unfolding WaitingBound timingsOf
+waiting-bound x sized ok before run same i most least in-site waiting long =
+    let t = timingsOf x in
+    let parts = split-run (λ c call. call .site ≡ x) (atPowerUp x) before run same in
+    let c = courseAfter (atPowerUp x) before in
+    let going = reached x sized ok (atPowerUp x) before (start x sized ok) (parts .0) in
+    let sound = sound-timings x sized ok in
+    let j = i - 1 in
+    let place : i ≡ j + 1 = omega arith in
+    let hj : j < meteredLanes x = omega arith in
+    let low = group-rank-most t sound (min most 720) j (lanes-are hj) (c .state .group) (good-group-of (going .good .group)) (going .chain) in
+    subst (λ (k : ℕ). beginsWithin k (waitingBound t most) c run ≡ true) (sym place)
+    (within x sized ok most j hj (waitingBound t most) c run going (parts .1)
+    (subst (λ (k : ℕ). AtAccepted (Waits k most) c run) place waiting)
+    (omega (arith, low, bound-grows t sound (min most 720) most (omega arith))) long)
+  where
+    lanes-are : {j : ℕ} → j < meteredLanes x → j < timingsOf x .lanes
+    lanes-are h = h
+
+    good-group-of : {g : Group} → GroupGood g (meteredLanes x) → GroupGood g (timingsOf x .lanes)
+    good-group-of v = v

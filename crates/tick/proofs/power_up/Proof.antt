@@ -1,0 +1,44 @@
+-- The check for 14, then zeros or a fresh state.
+use Rattle.tick.specs.Tick.{powerUpOf}
+use Rattle.tick.proofs.WaitingLaws.{waiting-bound}
+use Rattle.site.proofs.Sizes.{Sized}
+use borrow.Author.Needs.{needs}
+use Rattle.tick.proofs.power_up.Statement.{statement}
+use Rattle.tick.proofs.power_up.Tie as tie
+
+sized : (s : tie.Start) → Sized (s .args .t1)
+sized s =
+    record { timings = search needs; plan = search needs; dates = search needs; tables = search (needs, s .good .0 .1 .1 .1 .1 .1 .1 .1 .1 .0) }
+
+spoilt-requires : tie.Need-spoilt-requires
+spoilt-requires c κs = search needs
+
+zero-requires : tie.Need-zero-requires
+zero-requires c κs = search needs
+
+returns : tie.Need-returns
+unfolding powerUpOf
+returns c = let r = c .before .before in
+    (rw (← r .spoilt .ensures, c .before .if1 .taken, c .zero .ensures), waiting-bound _ (sized (r .before)))
+
+element-copy-out-fresh : tie.Need-element-copy-out-fresh
+element-copy-out-fresh c = search needs
+
+fresh-requires : tie.Need-fresh-requires
+fresh-requires c κs = search needs
+
+returns-2 : tie.Need-returns-2
+unfolding powerUpOf
+returns-2 c = let r = c .before .before .before in
+    (rw (← r .spoilt .ensures, c .before .before .if1 .left, c .fresh .ensures), waiting-bound _ (sized (r .before)))
+
+pub power-up-spec : {M : Type 1} → statement M
+power-up-spec =
+    tie.close
+    (tie.spec
+    spoilt-requires
+    zero-requires
+    returns
+    element-copy-out-fresh
+    fresh-requires
+    returns-2)
