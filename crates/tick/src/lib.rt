@@ -49,6 +49,7 @@ pub struct PoweredUp {
 // The state from which ticks begin. Whatever they are given, no waiting lane is passed over for long.
 pub fn power_up(site: Site) -> PoweredUp
     ensures is { λ r. ⌜ r ≡ powerUpOf site ⌝ }
+    ensures kept { λ r. ⌜ (r .refusal ≡ 0 → stateSpoilt (r .state) (meteredLanes site) (mainlineLanes site) ≡ false) ⌝ }
     ensures waits { λ _. ⌜ WaitingBound site ⌝ }
 {
     if site::spoilt(site) {
@@ -206,6 +207,7 @@ fn refused(site: Site, state: State, refusal: u8) -> Ticked
 // One tick. Over the ticks since power-up no waiting lane is passed over for long.
 pub fn tick(site: Site, state: State, input: Input) -> Ticked
     ensures is { λ r. ⌜ r ≡ tickOf site state input ⌝ }
+    ensures kept { λ r. ⌜ (r .refusal ≡ 0 → stateSpoilt (r .state) (meteredLanes site) (mainlineLanes site) ≡ false) ⌝ }
     ensures waits { λ _. ⌜ WaitingBound site ⌝ }
 {
     let refusal = refusal_of(site, state, input);

@@ -1,7 +1,13 @@
 -- The check for 14, then zeros or a fresh state.
 use Rattle.tick.specs.Tick.{powerUpOf}
 use Rattle.tick.proofs.WaitingLaws.{waiting-bound}
+use Rattle.site.specs.Record.{meteredLanes, mainlineLanes}
 use Rattle.site.proofs.Sizes.{Sized}
+use Rattle.site.proofs.TimingLaws.{timings-good}
+use Rattle.state.specs.State.{freshState}
+use Rattle.state.proofs.StateLaws.{good-state, fresh-good}
+use mathlib.Core.Path.{sym, _∙_}
+use native.Mathlib.Omega.{arith}
 use borrow.Author.Needs.{needs}
 use Rattle.tick.proofs.power_up.Statement.{statement}
 use Rattle.tick.proofs.power_up.Tie as tie
@@ -18,8 +24,9 @@ zero-requires c κs = search needs
 
 returns : tie.Need-returns
 unfolding powerUpOf
-returns c = let r = c .before .before in
-    (rw (← r .spoilt .ensures, c .before .if1 .taken, c .zero .ensures), waiting-bound _ (sized (r .before)))
+returns c =
+    let r = c .before .before in
+    (rw (← r .spoilt .ensures, c .before .if1 .taken, c .zero .ensures), ((λ z. absurd (omega arith)), waiting-bound _ (sized (r .before))))
 
 element-copy-out-fresh : tie.Need-element-copy-out-fresh
 element-copy-out-fresh c = search needs
@@ -29,8 +36,14 @@ fresh-requires c κs = search needs
 
 returns-2 : tie.Need-returns-2
 unfolding powerUpOf
-returns-2 c = let r = c .before .before .before in
-    (rw (← r .spoilt .ensures, c .before .before .if1 .left, c .fresh .ensures), waiting-bound _ (sized (r .before)))
+returns-2 c =
+    let r = c .before .before .before in
+    let x = r .before .args .t1 in
+    let ok = sym (r .spoilt .ensures) ∙ c .before .before .if1 .left in
+    let good = fresh-good (meteredLanes x) (mainlineLanes x) (timings-good x (sized (r .before)) ok .lanes-least) in (
+      rw (ok, c .fresh .ensures),
+      ((λ _. rw (c .fresh .ensures) (good-state (freshState (meteredLanes x)) (meteredLanes x) (mainlineLanes x) good)), waiting-bound _ (sized (r .before))),
+    )
 
 pub power-up-spec : {M : Type 1} → statement M
 power-up-spec =

@@ -1,9 +1,10 @@
 -- The checks, then the refused or the accepted tick.
-use Rattle.tick.specs.Tick.{tickOf}
+use Rattle.tick.specs.declared.Ticked.{Ticked}
+use Rattle.tick.specs.Tick.{refusedTick, tickOf}
 use Rattle.tick.proofs.WaitingLaws.{waiting-bound}
 use Rattle.site.proofs.Sizes.{Sized}
 use borrow.Author.Tests.{ne-eqb, eq-eqb}
-use mathlib.Core.Path.{sym, _∙_}
+use mathlib.Core.Path.{ap, sym, _∙_}
 use borrow.Author.Needs.{needs}
 use Rattle.tick.proofs.tick.Statement.{statement}
 use Rattle.tick.proofs.tick.Tie as tie
@@ -19,17 +20,23 @@ refused-requires : tie.Need-refused-requires
 refused-requires c κs = search needs
 
 returns : tie.Need-returns
-unfolding tickOf
-returns c = let r = c .before .before in
-    (rw (← r .refusal-of .ensures, ne-eqb _ _ (c .before .if1 .taken)) (c .refused .ensures), waiting-bound _ (sized (r .before)))
+unfolding tickOf refusedTick
+returns c =
+    let r = c .before .before in (
+      rw (← r .refusal-of .ensures, ne-eqb _ _ (c .before .if1 .taken)) (c .refused .ensures),
+      ((λ z. absurd (c .before .if1 .taken (sym (ap (λ (t : Ticked). t .refusal) (c .refused .ensures)) ∙ z))), waiting-bound _ (sized (r .before))),
+    )
 
 advance-requires : tie.Need-advance-requires
 advance-requires c κs = sym (c .before .refusal-of .ensures) ∙ c .if1 .left
 
 returns-2 : tie.Need-returns-2
 unfolding tickOf
-returns-2 c = let r = c .before .before in
-    (rw (← r .refusal-of .ensures, eq-eqb _ _ (c .before .if1 .left)) (c .advance .ensures .0), waiting-bound _ (sized (r .before)))
+returns-2 c =
+    let r = c .before .before in (
+      rw (← r .refusal-of .ensures, eq-eqb _ _ (c .before .if1 .left)) (c .advance .ensures .0),
+      ((λ _. c .advance .ensures .1), waiting-bound _ (sized (r .before))),
+    )
 
 pub tick-spec : {M : Type 1} → statement M
 tick-spec =
