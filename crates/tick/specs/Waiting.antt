@@ -72,7 +72,7 @@ abbrev pub beginsWithin : ℕ → ℕ → Course → List Call → Bool
 beginsWithin i k c [] = false
 beginsWithin i zero c (call ∷ calls) = false
 beginsWithin i (suc k) c (call ∷ calls) =
-    cond (isAccepted c call) (greenBegins i c call || beginsWithin i k (onward c call) calls) (beginsWithin i (suc k) (onward c call) calls)
+    (isAccepted c call && greenBegins i c call) || beginsWithin i (cond (isAccepted c call) k (suc k)) (onward c call) calls
 
 -- "Take every list of ticks, refused ones included, from an accepted power-up: .. each accepted one also the power-up's site .. Take every
 -- lane, every whole number C and every run of consecutive accepted ticks in the list, refused ones between them not counted, that has at

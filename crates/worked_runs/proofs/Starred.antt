@@ -4,9 +4,11 @@ use Rattle.worked_runs.specs.Run.{stateAfter, answerAt, releasesFrom, re
 use Rattle.tick.specs.Checks.{inputRefusal, tickRefusal}
 use Rattle.tick.specs.Timings.{timingsOf, timesOf}
 use Rattle.tick.specs.Tick.{powerUpOf, countedIn, decidedIn, cycleIn, movedIn, acceptedTick, refusedTick, tickOf}
+use Rattle.waiting.specs.Bound.{turnTicks, waitingBound}
+use Rattle.tick.specs.Waiting.{atPowerUp, answerTo, isAccepted, onward, greenBegins}
 use Rattle.state.specs.State.{stateSpoilt, freshState}
 use Rattle.group.specs.Group.{allRed, intervalOf, lanesIn, releasedIn, groupOf, lanesMoved, movedWith, movedOf}
-use Rattle.group.specs.Indications.{colourShown, lowerShown, signShown, laneShown, indicationsOf}
+use Rattle.group.specs.Indications.{colourShown, lowerShown, signShown, laneShown, indicationsOf, allDark}
 use Rattle.group.specs.Intervals.{ageOf, timeOf, successorOf, nextInterval}
 use Rattle.group.specs.Range.{colourSpoilt, laneSpoilt, laneKept, laneSpoiltAt, lanesSpoilt, groupSpoilt}
 use Rattle.lanes.specs.Intervals.{riseOf, passagesOf, greenEnds, greenAt, yellowAt, laneTick}
@@ -34,7 +36,7 @@ use Rattle.levels.specs.Levels.{reachesOf, isSlow, isMet}
 use Rattle.worked_runs.specs.Starred.{Starred}
 
 pub starred : Starred
-unfolding cycleTicks roundedUp dayTypeOf isDate isWithinDates daysBefore monthLength dayNumber weekdayOf inMonth todayOf monthBefore yesterdayOf isFloating isFixed isNamed measuresOf totalsOf withLane goodOf isMet reachesOf isSlow wordsOf readOf sectionOf isGood rangeOf timingRange isWithin stateAfter answerAt releasesFrom releases inputRefusal tickRefusal timingsOf timesOf powerUpOf countedIn decidedIn cycleIn movedIn acceptedTick refusedTick tickOf stateSpoilt freshState allRed intervalOf lanesIn releasedIn groupOf lanesMoved movedWith movedOf colourShown lowerShown signShown laneShown indicationsOf ageOf timeOf successorOf nextInterval colourSpoilt laneSpoilt laneKept laneSpoiltAt lanesSpoilt groupSpoilt riseOf passagesOf greenEnds greenAt yellowAt laneTick laneOf lanesOf laneTickAt lanesTick laneEntered lanesEntered offsetTicks isReady readyAt anyGreen mayRelease nextLane releasedOf greenIf releaseOf laneCounted laneCountedAt passagesAt countedOf nextSerial closedOf afterTick greensAt greenCounted afterRelease noPeriods mostTicks countsLaneSpoilt meteredSpoilt countsSpoilt lastTicks periodsSpoilt dayOf entryInForce commandInForce decisionOf plannedOf rulingOf sourceOf choiceOf meteredBad laneBad samplesBad commandBad commandsBad clockBad spoiltOf spoiltSite rateRange tableRange
+unfolding waitingBound turnTicks atPowerUp answerTo isAccepted onward greenBegins allDark cycleTicks roundedUp dayTypeOf isDate isWithinDates daysBefore monthLength dayNumber weekdayOf inMonth todayOf monthBefore yesterdayOf isFloating isFixed isNamed measuresOf totalsOf withLane goodOf isMet reachesOf isSlow wordsOf readOf sectionOf isGood rangeOf timingRange isWithin stateAfter answerAt releasesFrom releases inputRefusal tickRefusal timingsOf timesOf powerUpOf countedIn decidedIn cycleIn movedIn acceptedTick refusedTick tickOf stateSpoilt freshState allRed intervalOf lanesIn releasedIn groupOf lanesMoved movedWith movedOf colourShown lowerShown signShown laneShown indicationsOf ageOf timeOf successorOf nextInterval colourSpoilt laneSpoilt laneKept laneSpoiltAt lanesSpoilt groupSpoilt riseOf passagesOf greenEnds greenAt yellowAt laneTick laneOf lanesOf laneTickAt lanesTick laneEntered lanesEntered offsetTicks isReady readyAt anyGreen mayRelease nextLane releasedOf greenIf releaseOf laneCounted laneCountedAt passagesAt countedOf nextSerial closedOf afterTick greensAt greenCounted afterRelease noPeriods mostTicks countsLaneSpoilt meteredSpoilt countsSpoilt lastTicks periodsSpoilt dayOf entryInForce commandInForce decisionOf plannedOf rulingOf sourceOf choiceOf meteredBad laneBad samplesBad commandBad commandsBad clockBad spoiltOf spoiltSite rateRange tableRange
 starred = record {
   cycle-600 = refl;
   cycle-700 = refl;
@@ -60,4 +62,9 @@ starred = record {
   lane-1-at-311 = refl;
   released = refl;
   released-with-offset = refl;
+  bound-at-60 = refl;
+  bound-with-offset = refl;
+  before-metering = refl;
+  begins-at-41 = refl;
+  not-at-40 = refl;
 }

@@ -9,6 +9,7 @@ use Rattle.state.specs.declared.State.{State}
 use Rattle.tick.specs.declared.Input.{Input}
 use Rattle.tick.specs.declared.Ticked.{Ticked}
 use Rattle.tick.specs.Tick.{powerUpOf, tickOf}
+use Rattle.tick.specs.Waiting.{Call}
 
 -- "Metering at 600 wanted always, demand on, no passage": wanted by the technician, at midnight of 1 January 2024.
 abbrev pub metering600 : Input
@@ -40,3 +41,7 @@ releasesFrom x i number (suc k) s =
 -- The same of the first k ticks since power-up.
 unfoldable pub releases : Site → Input → ℕ → List (ℕ × ℕ)
 releases x i k = releasesFrom x i 1 k (powerUpOf x .state)
+
+-- k ticks as they are handed in.
+abbrev pub calls : Site → Input → ℕ → List Call
+calls x i k = replicate k (record { site = x; input = i })

@@ -13,8 +13,11 @@ use Rattle.levels.specs.declared.Level.{Level}
 use Rattle.levels.specs.Measures.{totalsOf, measuresOf}
 use Rattle.levels.specs.Levels.{isMet}
 use Rattle.release.specs.Cycle.{cycleTicks}
+use Rattle.waiting.specs.Bound.{waitingBound}
+use Rattle.tick.specs.Timings.{timingsOf}
+use Rattle.tick.specs.Waiting.{atPowerUp, courseAfter, acceptedTicks, beginsWithin}
 use Rattle.worked_runs.specs.SiteA.{siteA, siteAWithOffset}
-use Rattle.worked_runs.specs.Run.{metering600, answerAt, releases}
+use Rattle.worked_runs.specs.Run.{metering600, answerAt, releases, calls}
 
 abbrev pub date : ℕ → ℕ → ℕ → Date
 date year month day = record { year = year; month = month; day = day }
@@ -66,3 +69,10 @@ pub record Starred : Type 0 where
   pub released : releases siteA metering600 371 ≡ (311, 1) ∷ (331, 2) ∷ (371, 1) ∷ []
   -- "With fractional offset lane 2 begins at 341."
   pub released-with-offset : releases siteAWithOffset metering600 371 ≡ (311, 1) ∷ (341, 2) ∷ (371, 1) ∷ []
+  -- The words of demand 3, computed on these runs: lane 2 waits from tick 291 on, no cycle exceeds 60, and its green begins at the 41st tick
+  -- of the run, well before the 80th.
+  pub bound-at-60 : waitingBound (timingsOf siteA) 60 ≡ 80
+  pub bound-with-offset : waitingBound (timingsOf siteAWithOffset) 60 ≡ 90
+  pub before-metering : acceptedTicks (atPowerUp siteA) (calls siteA metering600 290) ≡ 290
+  pub begins-at-41 : beginsWithin 2 41 (courseAfter (atPowerUp siteA) (calls siteA metering600 290)) (calls siteA metering600 80) ≡ true
+  pub not-at-40 : beginsWithin 2 40 (courseAfter (atPowerUp siteA) (calls siteA metering600 290)) (calls siteA metering600 80) ≡ false

@@ -1,0 +1,29 @@
+# The ticks of the sample, one line each as `replay` reads them: Monday 5 November 2018, from 05:29:00 and from 19:29:00. Traffic on the
+# mainline is at LOS C both times: the plan meters it at 05:30 and no longer at 19:30. A small generator varies it, so that every run gives the same lines.
+function chance(k) {
+    seed = (seed * 421 + 1663) % 7875
+    return seed % k == 0
+}
+
+# gap: ticks between two vehicles of a mainline lane.
+function minutes(first, count, gap,    k, lane, line) {
+    for (k = 0; k < count; k++) {
+        line = "2018 11 5 " first + k
+        for (lane = 0; lane < 2; lane++) {
+            if (chance(lane == 0 ? 120 : 80)) waits[lane] = !waits[lane]
+            line = line " " (waits[lane] ? 0 : 1) " " (chance(60) ? 1 : 0)
+        }
+        for (lane = 0; lane < 3; lane++) {
+            if (until[lane] <= 0) until[lane] = gap + (chance(2) ? 3 : -3)
+            until[lane]--
+            line = line " 1 " (until[lane] < 2 ? 95 : 0) " " (until[lane] == 0 ? "1 " 88 + 4 * lane : "0 0")
+        }
+        print line " 0 0 0 0 0 0"
+    }
+}
+
+BEGIN {
+    seed = 51
+    minutes((5 * 60 + 29) * 600, 2100, 26)
+    minutes((19 * 60 + 29) * 600, 2100, 27)
+}
