@@ -27,7 +27,7 @@ use Rattle.group.proofs.RangeLaws.{GroupGood, lanes-enter, lanes-release}
 use Rattle.waiting.specs.Bound.{waitingBound}
 use Rattle.waiting.proofs.LaneRank.{Sound, redIn, readyIn, was-red}
 use Rattle.waiting.proofs.Chain.{Chain, chain-enter, chain-release}
-use Rattle.waiting.proofs.Rank.{dueRank, lanesRank, due-most, rank-most, rank-falls}
+use Rattle.waiting.proofs.Rank.{bound-least, dueRank, lanesRank, due-most, rank-most, rank-falls}
 
 -- Outside metering: one less than the bound.
 unfoldable pub groupRank : Timings → ℕ → ℕ → Group → ℕ
@@ -35,8 +35,7 @@ groupRank t c j g = cond (eqb (g .interval) 7) (lanesRank t c j (g .lanes)) (wai
 
 module _ (t : Timings) (ok : Sound t) (c : ℕ) (j : ℕ) (hj : j < t .lanes) where
   some-bound : 1 ≤ waitingBound t c
-  unfolding waitingBound
-  some-bound = omega (arith, ok .some-green)
+  some-bound = omega (arith, ok .some-green, bound-least t c)
 
   pub group-rank-most : (g : Group) → GroupGood g (t .lanes) → Chain t (g .lanes) → groupRank t c j g < waitingBound t c
   unfolding groupRank
@@ -53,7 +52,7 @@ module _ (t : Timings) (ok : Sound t) (c : ℕ) (j : ℕ) (hj : j < t .lanes) wh
 
   enter-falls : c ≤ 720 → (cycle : ℕ) (demand : List ℕ) → let k : ℕ = releasedOf t cycle demand (lanesEntered (t .lanes)) in
       eqb k (j + 1) ≡ false → lanesRank t c j (releaseOf (lanesEntered (t .lanes)) k) < waitingBound t c - 1
-  unfolding lanesRank waitingBound
+  unfolding lanesRank
   enter-falls hc cycle demand miss =
       let s = lanesEntered (t .lanes) in
       let k = releasedOf t cycle demand s in
@@ -63,15 +62,10 @@ module _ (t : Timings) (ok : Sound t) (c : ℕ) (j : ℕ) (hj : j < t .lanes) wh
       let chain = chain-release t ok s k cycle in-n (may-release t cycle demand s) (chain-enter t ok) in
       let here : laneOf after j ≡ lane 1 0 720 0 = lane-stays s k j place miss ∙ entered-in (t .lanes) j place hj in
       let soon : readyIn t c (laneOf after j) ≤ t .minred = rw here (entered-ready hc) in
+      let whole = bound-least t c in
       by-test (leb (readyIn t c (laneOf after j)) 1)
-      (λ e. rw e (below-due (dueRank t c j after) _ (due-most t ok c true after j good chain hj (leb-true _ _ e))))
-      (λ e. rw e (below-all (readyIn t c (laneOf after j)) _ soon (leb-false (readyIn t c (laneOf after j)) 1 e)))
-    where
-      below-due : (x y : ℕ) → x ≤ y → x < max c (t .maxgreen + t .yellow + t .minred) + y - 1
-      below-due x y p = omega (arith, ok .some-green, ok .some-yellow, ok .some-red)
-
-      below-all : (r y : ℕ) → r ≤ t .minred → 1 < r → r - 1 + y < max c (t .maxgreen + t .yellow + t .minred) + y - 1
-      below-all r y p q = omega (arith, ok .some-green, ok .some-yellow)
+      (λ e. rw e (omega (arith, whole, ok .some-green, ok .some-yellow, due-most t ok c true after j good chain hj (leb-true (readyIn t c (laneOf after j)) 1 e))))
+      (λ e. rw e (omega (arith, whole, ok .some-green, ok .some-yellow, soon, leb-false (readyIn t c (laneOf after j)) 1 e)))
 
   module _ (times : Times) (wish : Wish) (cycle : ℕ) (samples : Metered) (g : Group) (v : GroupGood g (t .lanes)) (w : Chain t (g .lanes)) where
     abbrev now : ℕ

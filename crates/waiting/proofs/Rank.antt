@@ -36,6 +36,11 @@ unfoldable pub lanesRank : Timings → ℕ → ℕ → Lanes → ℕ
 lanesRank t c j s =
     cond (leb (readyIn t c (laneOf s j)) 1) (dueRank t c j s) (readyIn t c (laneOf s j) - 1 + (t .lanes - 1) * turnTicks t c)
 
+-- The bound is as long as the wait of a lane that has just turned green, and a turn for each of the others.
+pub bound-least : (t : Timings) (c : ℕ) → max c (t .maxgreen + t .yellow + t .minred) + (t .lanes - 1) * turnTicks t c ≤ waitingBound t c
+unfolding waitingBound
+bound-least t c = omega arith
+
 -- One turn of d.
 one-turn : (d x : ℕ) → 1 ≤ d → (d - 1) * x + x ≡ d * x
 one-turn d x h =
@@ -78,18 +83,12 @@ module _ (t : Timings) (ok : Sound t) (c : ℕ) where
 
   -- The rank is below the bound.
   pub rank-most : (own : Bool) (s : Lanes) (j : ℕ) → LanesGood own s (t .lanes) → Chain t s → j < t .lanes → lanesRank t c j s < waitingBound t c
-  unfolding lanesRank waitingBound
+  unfolding lanesRank
   rank-most own s j v w h =
+      let whole = bound-least t c in
       by-test (leb (readyIn t c (laneOf s j)) 1)
-      (λ e. rw e (below-due (due-most own s j v w h (leb-true _ _ e))))
-      (λ e. rw e (below-all (leb-false (readyIn t c (laneOf s j)) 1 e)))
-    where
-      below-due : dueRank t c j s ≤ (t .lanes - 1) * turnTicks t c → dueRank t c j s < max c (t .maxgreen + t .yellow + t .minred) + (t .lanes - 1) * turnTicks t c
-      below-due p = omega (arith, ok .some-green)
-
-      below-all : 1 < readyIn t c (laneOf s j)
-          → readyIn t c (laneOf s j) - 1 + (t .lanes - 1) * turnTicks t c < max c (t .maxgreen + t .yellow + t .minred) + (t .lanes - 1) * turnTicks t c
-      below-all p = omega (arith, ready-in-most t ok c (laneOf s j))
+      (λ e. rw e (omega (arith, whole, ok .some-green, due-most own s j v w h (leb-true (readyIn t c (laneOf s j)) 1 e))))
+      (λ e. rw e (omega (arith, whole, leb-false (readyIn t c (laneOf s j)) 1 e, ready-in-most t ok c (laneOf s j))))
 
 -- A tick in metering.
 module _ (t : Timings) (ok : Sound t) (c : ℕ) (hc : c ≤ 720) (s : Lanes) (passage : List ℕ) (v : LanesGood true s (t .lanes)) (w : Chain t s) where

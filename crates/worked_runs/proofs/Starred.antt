@@ -67,4 +67,7 @@ starred = record {
   before-metering = refl;
   begins-at-41 = refl;
   not-at-40 = refl;
+  bound-of-one-lane = refl;
+  in-time = refl;
+  no-tick-to-spare = refl;
 }

@@ -5,10 +5,10 @@ use mathlib.Core.List.{[], _∷_}
 use lib.ListN.{replicate}
 use Rattle.site.specs.declared.Site.{Site}
 
--- In the service mode given: 0 mutual exclusion, 1 fractional offset.
-abbrev pub siteIn : ℕ → Site
-siteIn mode = record {
-  timings = 2 ∷ mode ∷ 1 ∷ 10 ∷ 20 ∷ 20 ∷ 20 ∷ 100 ∷ 50 ∷ 30 ∷ 50 ∷ 10 ∷ 1 ∷ 10 ∷ 1 ∷ [];
+-- With so many lanes, in a service mode: 0 mutual exclusion, 1 fractional offset.
+abbrev pub siteWith : ℕ → ℕ → Site
+siteWith lanes mode = record {
+  timings = lanes ∷ mode ∷ 1 ∷ 10 ∷ 20 ∷ 20 ∷ 20 ∷ 100 ∷ 50 ∷ 30 ∷ 50 ∷ 10 ∷ 1 ∷ 10 ∷ 1 ∷ [];
   entries = 0;
   plan = replicate 80 0;
   holidays = 0;
@@ -18,7 +18,7 @@ siteIn mode = record {
 }
 
 abbrev pub siteA : Site
-siteA = siteIn 0
+siteA = siteWith 2 0
 
 abbrev pub siteAWithOffset : Site
-siteAWithOffset = siteIn 1
+siteAWithOffset = siteWith 2 1

@@ -16,7 +16,7 @@ use Rattle.release.specs.Cycle.{cycleTicks}
 use Rattle.waiting.specs.Bound.{waitingBound}
 use Rattle.tick.specs.Timings.{timingsOf}
 use Rattle.tick.specs.Waiting.{atPowerUp, courseAfter, acceptedTicks, beginsWithin}
-use Rattle.worked_runs.specs.SiteA.{siteA, siteAWithOffset}
+use Rattle.worked_runs.specs.SiteA.{siteWith, siteA, siteAWithOffset}
 use Rattle.worked_runs.specs.Run.{metering600, answerAt, releases, calls}
 
 abbrev pub date : ℕ → ℕ → ℕ → Date
@@ -76,3 +76,7 @@ pub record Starred : Type 0 where
   pub before-metering : acceptedTicks (atPowerUp siteA) (calls siteA metering600 290) ≡ 290
   pub begins-at-41 : beginsWithin 2 41 (courseAfter (atPowerUp siteA) (calls siteA metering600 290)) (calls siteA metering600 80) ≡ true
   pub not-at-40 : beginsWithin 2 40 (courseAfter (atPowerUp siteA) (calls siteA metering600 290)) (calls siteA metering600 80) ≡ false
+  -- And the number is exact: with one lane, released at 311 and 371, a run from tick 312 on meets the bound with no tick to spare.
+  pub bound-of-one-lane : waitingBound (timingsOf (siteWith 1 0)) 60 ≡ 60
+  pub in-time : beginsWithin 1 60 (courseAfter (atPowerUp (siteWith 1 0)) (calls (siteWith 1 0) metering600 311)) (calls (siteWith 1 0) metering600 60) ≡ true
+  pub no-tick-to-spare : beginsWithin 1 59 (courseAfter (atPowerUp (siteWith 1 0)) (calls (siteWith 1 0) metering600 311)) (calls (siteWith 1 0) metering600 60) ≡ false
