@@ -1,11 +1,11 @@
 -- The table is the definition's.
-use Rattle.listing.proofs.Names.{three-letters, no-name}
-use Rattle.listing.specs.Timetable.{dayName}
+use Rattle.phrases.proofs.DayNames.{three-letters, no-name}
+use Rattle.phrases.specs.Phrases.{dayName}
 use Rattle.text.proofs.PutLaws.{put-nothing}
 use mathlib.Core.Path.{sym}
 use borrow.Author.Needs.{needs}
-use Rattle.listing.proofs.line.put_day_name.Statement.{statement}
-use Rattle.listing.proofs.line.put_day_name.Tie as tie
+use Rattle.phrases.proofs.put_day_name.Statement.{statement}
+use Rattle.phrases.proofs.put_day_name.Tie as tie
 
 returns : tie.Need-returns
 returns c = rw (no-name (c .before .before .args .day) (c .if1 .taken)) (put-nothing _ _ (search needs))

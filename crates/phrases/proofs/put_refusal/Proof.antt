@@ -1,9 +1,9 @@
 -- The five parts of the line.
-use Rattle.listing.specs.Timetable.{refusalLine}
+use Rattle.phrases.specs.Phrases.{refusalLine}
 use Rattle.text.proofs.PutLaws.{put-then}
 use borrow.Author.Needs.{needs}
-use Rattle.listing.proofs.put_refusal.Statement.{statement}
-use Rattle.listing.proofs.put_refusal.Tie as tie
+use Rattle.phrases.proofs.put_refusal.Statement.{statement}
+use Rattle.phrases.proofs.put_refusal.Tie as tie
 
 slice-aggregate-put-bytes : tie.Need-slice-aggregate-put-bytes
 slice-aggregate-put-bytes c = search needs

@@ -1,8 +1,8 @@
 -- The blank, then the number.
 use Rattle.text.proofs.PutLaws.{put-then}
 use borrow.Author.Needs.{needs}
-use Rattle.listing.proofs.line.put_blank_and_decimal.Statement.{statement}
-use Rattle.listing.proofs.line.put_blank_and_decimal.Tie as tie
+use Rattle.phrases.proofs.put_blank_and_decimal.Statement.{statement}
+use Rattle.phrases.proofs.put_blank_and_decimal.Tie as tie
 
 put-byte-requires : tie.Need-put-byte-requires
 put-byte-requires c κs = search needs
