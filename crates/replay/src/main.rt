@@ -2,5 +2,5 @@
 use libc::STDIN_FILENO;
 
 fn main() {
-    replay_file::run(b"site.bin", STDIN_FILENO);
+    replay_file::replay(b"site.bin", STDIN_FILENO);
 }

@@ -143,8 +143,8 @@ pub fn take_bytes(site: Site, before: Run, bytes: &[u8], out: &mut [u8]) -> Run 
         if bytes.len() <= end {
             return run;
         }
-        run = end_line(site, run, out);
         from = end + 1;
+        run = end_line(site, run, out);
     }
     run
 }
