@@ -3,13 +3,13 @@ ghost use mathlib.Core.Path.{_≡_};
 ghost use Prim.Native.Nat.{_≤_};
 ghost use Rattle.tick_line.specs.Scan.{ended};
 ghost use Rattle.tick_line.specs.Reading.{clockOf, ofLane, ofMetered, meteredOf, ofMainline, mainlineOf, commandOf, withClock, inputOf, noTickRead, tickRead};
+use crate::scan;
+use crate::scan::Scan;
 use calendar::Clock;
 use calendar::Date;
 use inputs::Command;
 use inputs::Mainline;
 use inputs::Metered;
-use crate::scan;
-use crate::scan::Scan;
 use tick::Input;
 
 // Whether a line is a tick, and that tick; zeros where it is none.

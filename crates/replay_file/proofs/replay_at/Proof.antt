@@ -2,12 +2,6 @@
 use borrow.Author.Needs.{needs}
 use Rattle.replay_file.proofs.replay_at.Statement.{statement}
 use Rattle.replay_file.proofs.replay_at.Tie as tie
-use Rattle.replay_file.proofs.replay_at.Reads as reads
-use Rattle.replay_file.proofs.replay_at.Lts as lts
-use Rattle.io.proofs.large_buffer.Reads as large-buffer-reads
-use Rattle.replay_file.proofs.lines.start.Reads as start-reads
-use Rattle.replay_file.proofs.lines.write_out.Reads as write-out-reads
-use Rattle.replay_file.proofs.read_some.Reads as read-some-reads
 
 abbrev Inv-loop : tie.InvT-loop
 Inv-loop site fd out₀ run₀ left₀ out run left = Unit {0}
@@ -15,43 +9,33 @@ Inv-loop site fd out₀ run₀ left₀ out run left = Unit {0}
 abbrev μ-loop : tie.MeasureT-loop
 μ-loop site fd out₀ run₀ left₀ out run left = left
 
--- src/lib.rt:28:21
 large-buffer-requires : tie.Need-large-buffer-requires Inv-loop μ-loop
 large-buffer-requires c κs = search needs
 
--- src/lib.rt:29:9
 slice-aggregate-out : tie.Need-slice-aggregate-out Inv-loop μ-loop
 slice-aggregate-out c = search needs
 
--- src/lib.rt:30:9
 start-requires : tie.Need-start-requires Inv-loop μ-loop
 start-requires c κs = search needs
 
--- src/lib.rt:32:5
 loop-holds : tie.Need-loop-holds Inv-loop μ-loop
 loop-holds c = tt
 
--- src/lib.rt:36:9
 read-some-requires : tie.Need-read-some-requires Inv-loop μ-loop
 read-some-requires c κs = search needs
 
--- src/lib.rt:37:9
 sub-left : tie.Need-sub-left Inv-loop μ-loop
 sub-left c = search needs
 
--- src/lib.rt:32:5
 loop-less : tie.Need-loop-less Inv-loop μ-loop
 loop-less c = search needs
 
--- src/lib.rt:32:5
 loop-again : tie.Need-loop-again Inv-loop μ-loop
 loop-again c = tt
 
--- src/lib.rt:39:5
 write-out-requires : tie.Need-write-out-requires Inv-loop μ-loop
 write-out-requires c κs = search needs
 
--- src/lib.rt:27:1
 returns : tie.Need-returns Inv-loop μ-loop
 returns c = tt
 

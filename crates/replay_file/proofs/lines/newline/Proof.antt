@@ -4,8 +4,6 @@ use Prim.Native.Nat.{_≤_, _-_}
 use borrow.Author.Needs.{needs}
 use Rattle.replay_file.proofs.lines.newline.Statement.{statement}
 use Rattle.replay_file.proofs.lines.newline.Tie as tie
-use Rattle.replay_file.proofs.lines.newline.Reads as reads
-use Rattle.replay_file.proofs.lines.newline.Lts as lts
 
 abbrev Inv-loop : tie.InvT-loop
 Inv-loop bytes from at₀ at = (from ≤ at) × (at ≤ length bytes)
@@ -13,31 +11,24 @@ Inv-loop bytes from at₀ at = (from ≤ at) × (at ≤ length bytes)
 abbrev μ-loop : tie.MeasureT-loop
 μ-loop bytes from at₀ at = length bytes - at
 
--- src/lines.rt:115:5
 loop-holds : tie.Need-loop-holds Inv-loop μ-loop
 loop-holds c = search needs
 
--- src/lines.rt:116:12
 shared-slice-read-if1 : tie.Need-shared-slice-read-if1 Inv-loop μ-loop
 shared-slice-read-if1 c = search needs
 
--- src/lines.rt:117:13
 returns : tie.Need-returns Inv-loop μ-loop
 returns c = search needs
 
--- src/lines.rt:119:9
 add-at : tie.Need-add-at Inv-loop μ-loop
 add-at c = search needs
 
--- src/lines.rt:115:5
 loop-less : tie.Need-loop-less Inv-loop μ-loop
 loop-less c = search needs
 
--- src/lines.rt:115:5
 loop-again : tie.Need-loop-again Inv-loop μ-loop
 loop-again c = search needs
 
--- src/lines.rt:110:1
 returns-2 : tie.Need-returns-2 Inv-loop μ-loop
 returns-2 c = search needs
 

@@ -7,39 +7,28 @@ use mathlib.Core.Path.{sym}
 use borrow.Author.Needs.{needs}
 use Rattle.replay_file.proofs.lines.put_poll.Statement.{statement}
 use Rattle.replay_file.proofs.lines.put_poll.Tie as tie
-use Rattle.replay_file.proofs.lines.put_poll.Reads as reads
-use Rattle.replay_file.proofs.lines.put_poll.Lts as lts
-use Rattle.poll.proofs.poll.Reads as poll-reads
-use Rattle.tick_text.proofs.put_poll.Reads as put-poll-reads
 
 written-fits : (c : tie.After-poll) → c .poll .result .count ≤ length (c .poll .last .1 .1 .0)
 written-fits c = rw (c .poll .kept .1 .1 .0, c .poll .ensures .0) (count-fits _ _ _)
 
--- src/lines.rt:61:43
 slice-aggregate-poll : tie.Need-slice-aggregate-poll
 slice-aggregate-poll c = search needs
 
--- src/lines.rt:61:9
 poll-requires : tie.Need-poll-requires
 poll-requires c κs = search needs
 
--- src/lines.rt:63:34
 array-share-prefix-bytes : tie.Need-array-share-prefix-bytes
 array-share-prefix-bytes c = written-fits (c .before .before)
 
--- src/lines.rt:63:34
 slice-aggregate-put-poll : tie.Need-slice-aggregate-put-poll
 slice-aggregate-put-poll c = sym (length-take-le _ _ (written-fits (c .before .before .before)))
 
--- src/lines.rt:63:5
 put-poll-requires : tie.Need-put-poll-requires
 put-poll-requires c κs = search needs
 
--- src/lines.rt:59:1
 same-length : tie.Need-same-length
 same-length c = search needs
 
--- src/lines.rt:59:1
 returns : tie.Need-returns
 returns c = search needs
 

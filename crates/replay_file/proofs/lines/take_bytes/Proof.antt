@@ -5,11 +5,6 @@ use mathlib.Core.Path.{_≡_}
 use borrow.Author.Needs.{needs}
 use Rattle.replay_file.proofs.lines.take_bytes.Statement.{statement}
 use Rattle.replay_file.proofs.lines.take_bytes.Tie as tie
-use Rattle.replay_file.proofs.lines.take_bytes.Reads as reads
-use Rattle.replay_file.proofs.lines.take_bytes.Lts as lts
-use Rattle.replay_file.proofs.lines.end_line.Reads as end-line-reads
-use Rattle.replay_file.proofs.lines.in_line.Reads as in-line-reads
-use Rattle.replay_file.proofs.lines.newline.Reads as newline-reads
 
 abbrev Inv-loop : tie.InvT-loop
 Inv-loop site bytes out₀ run₀ from₀ out run from = (from ≤ length bytes) × (length out ≡ length out₀)
@@ -17,67 +12,51 @@ Inv-loop site bytes out₀ run₀ from₀ out run from = (from ≤ length bytes)
 abbrev μ-loop : tie.MeasureT-loop
 μ-loop site bytes out₀ run₀ from₀ out run from = length bytes - from
 
--- src/lines.rt:137:5
 loop-holds : tie.Need-loop-holds Inv-loop μ-loop
 loop-holds c = search needs
 
--- src/lines.rt:139:13
 same-length : tie.Need-same-length Inv-loop μ-loop
 same-length c = search needs
 
--- src/lines.rt:139:13
 returns : tie.Need-returns Inv-loop μ-loop
 returns c = search needs
 
--- src/lines.rt:141:13
 newline-requires : tie.Need-newline-requires Inv-loop μ-loop
 newline-requires c κs = search needs
 
--- src/lines.rt:142:28
 sub-in-line : tie.Need-sub-in-line Inv-loop μ-loop
 sub-in-line c = search needs
 
--- src/lines.rt:142:28
 part-in-line-start : tie.Need-part-in-line-start Inv-loop μ-loop
 part-in-line-start c = search needs
 
--- src/lines.rt:142:28
 part-in-line-end : tie.Need-part-in-line-end Inv-loop μ-loop
 part-in-line-end c = search needs
 
--- src/lines.rt:142:9
 in-line-requires : tie.Need-in-line-requires Inv-loop μ-loop
 in-line-requires c κs = search needs
 
--- src/lines.rt:144:13
 same-length-2 : tie.Need-same-length-2 Inv-loop μ-loop
 same-length-2 c = search needs
 
--- src/lines.rt:144:13
 returns-2 : tie.Need-returns-2 Inv-loop μ-loop
 returns-2 c = search needs
 
--- src/lines.rt:146:9
 add-from : tie.Need-add-from Inv-loop μ-loop
 add-from c = search needs
 
 end-line-requires : tie.Need-end-line-requires Inv-loop μ-loop
 end-line-requires c κs = search needs
 
--- src/lines.rt:147:16
--- src/lines.rt:137:5
 loop-less : tie.Need-loop-less Inv-loop μ-loop
 loop-less c = search needs
 
--- src/lines.rt:137:5
 loop-again : tie.Need-loop-again Inv-loop μ-loop
 loop-again c = search needs
 
--- src/lines.rt:134:1
 same-length-3 : tie.Need-same-length-3 Inv-loop μ-loop
 same-length-3 c = search needs
 
--- src/lines.rt:134:1
 returns-3 : tie.Need-returns-3 Inv-loop μ-loop
 returns-3 c = search needs
 

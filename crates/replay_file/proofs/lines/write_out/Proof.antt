@@ -4,23 +4,16 @@ use mathlib.Core.Path.{sym}
 use borrow.Author.Needs.{needs}
 use Rattle.replay_file.proofs.lines.write_out.Statement.{statement}
 use Rattle.replay_file.proofs.lines.write_out.Tie as tie
-use Rattle.replay_file.proofs.lines.write_out.Reads as reads
-use Rattle.replay_file.proofs.lines.write_out.Lts as lts
-use Rattle.io.proofs.write_all.Reads as write-all-reads
 
--- src/lines.rt:26:38
 slice-aggregate-write-all : tie.Need-slice-aggregate-write-all
 slice-aggregate-write-all c = sym (length-take-le _ _ (search needs))
 
--- src/lines.rt:26:9
 write-all-requires : tie.Need-write-all-requires
 write-all-requires c κs = search needs
 
--- src/lines.rt:24:1
 returns : tie.Need-returns
 returns c = search needs
 
--- src/lines.rt:24:1
 returns-2 : tie.Need-returns-2
 returns-2 c = search needs
 
