@@ -1,26 +1,9 @@
--- Each day has a name of three letters; past the eighth day and the fourth mode there is none.
-use Prim.Native.Nat.{ℕ, zero, suc, _≤_, _<_}
-use mathlib.Core.Path.{_≡_, refl}
+-- Past the fourth mode there is no name.
+use Prim.Native.Nat.{ℕ, _≤_}
+use mathlib.Core.Path.{_≡_}
 use mathlib.Core.List.{[]}
-use native.Mathlib.Omega.{arith}
-use lib.ListN.{length, List·getD-eq-default}
-use Rattle.listing.specs.Timetable.{dayNames, dayName, modeNames, modeName}
-
-pub three-letters : (d : ℕ) → d < 8 → length (dayName d) ≡ 3
-unfolding dayName
-three-letters zero h = refl
-three-letters (suc zero) h = refl
-three-letters (suc (suc zero)) h = refl
-three-letters (suc (suc (suc zero))) h = refl
-three-letters (suc (suc (suc (suc zero)))) h = refl
-three-letters (suc (suc (suc (suc (suc zero))))) h = refl
-three-letters (suc (suc (suc (suc (suc (suc zero)))))) h = refl
-three-letters (suc (suc (suc (suc (suc (suc (suc zero))))))) h = refl
-three-letters (suc (suc (suc (suc (suc (suc (suc (suc d)))))))) h = absurd (omega arith)
-
-pub no-name : (d : ℕ) → 8 ≤ d → dayName d ≡ []
-unfolding dayName
-no-name d h = List·getD-eq-default dayNames [] {n = d} h
+use lib.ListN.{List·getD-eq-default}
+use Rattle.listing.specs.Timetable.{modeNames, modeName}
 
 pub no-mode : (m : ℕ) → 4 ≤ m → modeName m ≡ []
 unfolding modeName

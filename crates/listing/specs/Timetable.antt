@@ -6,18 +6,13 @@ use mathlib.Core.List.{List, [], _∷_, _++_}
 use lib.Dec.{eqb}
 use lib.ListN.{getD}
 use Rattle.text.specs.Ascii.{ascii}
-use Rattle.text.specs.Decimal.{decimal, twoDigits}
+use Rattle.text.specs.Decimal.{twoDigits}
+use Rattle.phrases.specs.Phrases.{dayName, blankAndDecimal, refusalLine}
 use Rattle.plan.specs.declared.Entry.{Entry}
 use Rattle.plan.specs.Entry.{entryOf, onDay}
 use Rattle.site.specs.declared.Site.{Site}
 use Rattle.site.specs.declared.ReadSite.{ReadSite}
 use Rattle.site.specs.Reading.{readOf}
-
-abbrev pub dayNames : List (List ℕ)
-dayNames = ascii "Sun" ∷ ascii "Mon" ∷ ascii "Tue" ∷ ascii "Wed" ∷ ascii "Thu" ∷ ascii "Fri" ∷ ascii "Sat" ∷ ascii "Hol" ∷ []
-
-unfoldable pub dayName : ℕ → List ℕ
-dayName day = getD dayNames day []
 
 abbrev pub modeNames : List (List ℕ)
 modeNames = ascii "dark" ∷ ascii "green" ∷ ascii "fixed" ∷ ascii "resp" ∷ []
@@ -28,10 +23,6 @@ modeName mode = getD modeNames mode []
 -- A minute of the day as hh:mm.
 abbrev pub clockText : ℕ → List ℕ
 clockText minute = twoDigits (minute / 60) ++ (ascii ":" ++ twoDigits (minute % 60))
-
--- A blank, and a number behind it.
-abbrev pub blankAndDecimal : ℕ → List ℕ
-blankAndDecimal n = ascii " " ++ decimal n
 
 abbrev pub numbersText : Entry → ℕ → List ℕ
 numbersText e filed = blankAndDecimal (e .rate) ++ (blankAndDecimal (e .table) ++ (blankAndDecimal filed ++ ascii "\n"))
@@ -62,11 +53,7 @@ daysFrom rows count day (suc n) = minutesFrom rows count day 0 1440 ++ daysFrom 
 unfoldable pub timetableOf : Site → List ℕ
 timetableOf x = ascii "day start mode rate table filed\n" ++ daysFrom (x .plan) (x .entries) 0 8
 
--- "A refused file prints only `refused N at P`."
-unfoldable pub refusalLine : ℕ → ℕ → List ℕ
-refusalLine refusal place = ascii "refused " ++ (decimal refusal ++ (ascii " at " ++ (decimal place ++ ascii "\n")))
-
--- What is printed of what reading gave.
+-- What is printed of what reading gave: "A refused file prints only `refused N at P`."
 unfoldable pub printedOf : ReadSite → List ℕ
 printedOf r = cond (eqb (r .refusal) 0) (timetableOf (r .site)) (refusalLine (r .refusal) (r .place))
 

@@ -5,7 +5,7 @@ ghost use mathlib.Core.Path.{_≡_};
 ghost use Prim.Native.Nat.{_≤_};
 ghost use Rattle.text.specs.Put.{Put};
 ghost use Rattle.output.specs.Output.{answerOf, bufferOf};
-ghost use Rattle.listing.specs.Timetable.{startingAt, minutesFrom, daysFrom, timetableOf, refusalLine, printedOf, textOf};
+ghost use Rattle.listing.specs.Timetable.{startingAt, minutesFrom, daysFrom, timetableOf, printedOf, textOf};
 ghost use Rattle.listing.specs.NextStart.{NextStart};
 use output::Written;
 use site::ReadSite;
@@ -91,22 +91,12 @@ fn put_timetable(out: &mut [u8], at: usize, site: Site) -> usize
     put_days(out, p, &plan, site.entries)
 }
 
-fn put_refusal(out: &mut [u8], at: usize, refusal: u8, place: usize) -> usize
-    ensures { λ r. ⌜ Put (now (out .entry)) at (refusalLine refusal place) r (now (out .exit)) ⌝ }
-{
-    let p = text::put_bytes(out, at, b"refused ");
-    let q = text::put_decimal(out, p, refusal as u64);
-    let r = text::put_bytes(out, q, b" at ");
-    let s = text::put_decimal(out, r, place as u64);
-    text::put_bytes(out, s, b"\n")
-}
-
 // What is printed of what reading gave.
 fn put_printed(out: &mut [u8], at: usize, read: ReadSite) -> usize
     ensures { λ r. ⌜ Put (now (out .entry)) at (printedOf read) r (now (out .exit)) ⌝ }
 {
     if read.refusal != 0 {
-        return put_refusal(out, at, read.refusal, read.place);
+        return phrases::put_refusal(out, at, read.refusal, read.place);
     }
     let site = read.site;
     put_timetable(out, at, site)

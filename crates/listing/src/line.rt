@@ -1,30 +1,8 @@
 // One entry's line in the timetable.
 ghost use mathlib.Core.Path.{_≡_};
 ghost use Rattle.text.specs.Put.{Put};
-ghost use Rattle.listing.specs.Timetable.{dayName, modeName, clockText, blankAndDecimal, numbersText, lineOf, lineIf};
+ghost use Rattle.listing.specs.Timetable.{modeName, clockText, numbersText, lineOf, lineIf};
 use plan::Entry;
-
-const DAYS: [[u8; 3]; 8] = [
-    *b"Sun",
-    *b"Mon",
-    *b"Tue",
-    *b"Wed",
-    *b"Thu",
-    *b"Fri",
-    *b"Sat",
-    *b"Hol",
-];
-
-fn put_day_name(out: &mut [u8], at: usize, day: u16) -> usize
-    ensures { λ r. ⌜ Put (now (out .entry)) at (dayName day) r (now (out .exit)) ⌝ }
-{
-    let d = day as usize;
-    if 8 <= d {
-        return at;
-    }
-    let name = DAYS[d];
-    text::put_bytes(out, at, &name)
-}
 
 fn put_mode_name(out: &mut [u8], at: usize, mode: u16) -> usize
     ensures { λ r. ⌜ Put (now (out .entry)) at (modeName mode) r (now (out .exit)) ⌝ }
@@ -47,28 +25,20 @@ fn put_clock(out: &mut [u8], at: usize, minute: u16) -> usize
     text::put_two_digits(out, q, minute % 60)
 }
 
-// A blank, and a number behind it.
-fn put_blank_and_decimal(out: &mut [u8], at: usize, n: u64) -> usize
-    ensures { λ r. ⌜ Put (now (out .entry)) at (blankAndDecimal n) r (now (out .exit)) ⌝ }
-{
-    let p = text::put_byte(out, at, b' ');
-    text::put_decimal(out, p, n)
-}
-
 // What follows the mode: rate, table and place in the file.
 fn put_numbers(out: &mut [u8], at: usize, e: Entry, filed: u64) -> usize
     ensures { λ r. ⌜ Put (now (out .entry)) at (numbersText e filed) r (now (out .exit)) ⌝ }
 {
-    let table = put_blank_and_decimal(out, at, e.rate as u64);
-    let place = put_blank_and_decimal(out, table, e.table as u64);
-    let end = put_blank_and_decimal(out, place, filed);
+    let table = phrases::put_blank_and_decimal(out, at, e.rate as u64);
+    let place = phrases::put_blank_and_decimal(out, table, e.table as u64);
+    let end = phrases::put_blank_and_decimal(out, place, filed);
     text::put_byte(out, end, b'\n')
 }
 
 fn put_line(out: &mut [u8], at: usize, day: u16, e: Entry, filed: u64) -> usize
     ensures { λ r. ⌜ Put (now (out .entry)) at (lineOf day e filed) r (now (out .exit)) ⌝ }
 {
-    let p = put_day_name(out, at, day);
+    let p = phrases::put_day_name(out, at, day);
     let start = text::put_byte(out, p, b' ');
     let q = put_clock(out, start, e.start);
     let mode = text::put_byte(out, q, b' ');

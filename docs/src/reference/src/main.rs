@@ -5,6 +5,9 @@
 //! - `tick-cases stdin`, `tick-cases stdout`: the files of `crates/tick_cases`.
 //! - `timetable FILE`: what the timetable program prints of a file.
 //! - `replay FILE`: what the replay program prints of a site file and the ticks on standard input.
+//! - `replay-ticks`: the ticks of `crates/replay`.
+//! - `replay-cases stdout`: what `crates/replay_cases` prints.
+//! - `replay-files FOLDER`: the files that it reads.
 //! - `site-files FOLDER`: the site files that the timetable's test programs read.
 
 mod calendar;
@@ -16,6 +19,7 @@ mod periods;
 mod poll;
 mod random;
 mod replay;
+mod replay_files;
 mod site;
 mod tick;
 mod tick_cases;
@@ -73,6 +77,9 @@ fn main() -> Result<()> {
             let file = std::fs::read(file).unwrap_or_default();
             out.write_all(replay::print(&file, &ticks).as_bytes())
         }
+        ["replay-ticks"] => out.write_all(replay_files::ticks().as_bytes()),
+        ["replay-cases", "stdout"] => out.write_all(replay_files::answers().as_bytes()),
+        ["replay-files", folder] => replay_files::files().iter().try_for_each(|(name, file)| std::fs::write(format!("{folder}/{name}"), file)),
         ["site-files", folder] => {
             let mut paper = files::site_a();
             paper.entries = vec![[2, 330, 2, 600, 0], [2, 330, 2, 720, 0], [130, 1170, 0, 0, 0]];

@@ -1,0 +1,21 @@
+-- What both programs print.
+use Prim.Native.Nat.{ℕ}
+use mathlib.Core.List.{List, [], _∷_, _++_}
+use lib.ListN.{getD}
+use Rattle.text.specs.Ascii.{ascii}
+use Rattle.text.specs.Decimal.{decimal}
+
+-- The names of the day types in bit order.
+abbrev pub dayNames : List (List ℕ)
+dayNames = ascii "Sun" ∷ ascii "Mon" ∷ ascii "Tue" ∷ ascii "Wed" ∷ ascii "Thu" ∷ ascii "Fri" ∷ ascii "Sat" ∷ ascii "Hol" ∷ []
+
+unfoldable pub dayName : ℕ → List ℕ
+dayName day = getD dayNames day []
+
+-- A blank, and a number behind it.
+abbrev pub blankAndDecimal : ℕ → List ℕ
+blankAndDecimal n = ascii " " ++ decimal n
+
+-- "A refused file prints only `refused N at P`."
+unfoldable pub refusalLine : ℕ → ℕ → List ℕ
+refusalLine refusal place = ascii "refused " ++ (decimal refusal ++ (ascii " at " ++ (decimal place ++ ascii "\n")))

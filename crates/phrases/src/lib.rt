@@ -1,0 +1,42 @@
+// What both programs print: a day's name, a number behind a blank, the line of a refused site file.
+ghost use Rattle.text.specs.Put.{Put};
+ghost use Rattle.phrases.specs.Phrases.{dayName, blankAndDecimal, refusalLine};
+
+const DAYS: [[u8; 3]; 8] = [
+    *b"Sun",
+    *b"Mon",
+    *b"Tue",
+    *b"Wed",
+    *b"Thu",
+    *b"Fri",
+    *b"Sat",
+    *b"Hol",
+];
+
+pub fn put_day_name(out: &mut [u8], at: usize, day: u16) -> usize
+    ensures { λ r. ⌜ Put (now (out .entry)) at (dayName day) r (now (out .exit)) ⌝ }
+{
+    let d = day as usize;
+    if 8 <= d {
+        return at;
+    }
+    let name = DAYS[d];
+    text::put_bytes(out, at, &name)
+}
+
+pub fn put_blank_and_decimal(out: &mut [u8], at: usize, n: u64) -> usize
+    ensures { λ r. ⌜ Put (now (out .entry)) at (blankAndDecimal n) r (now (out .exit)) ⌝ }
+{
+    let p = text::put_byte(out, at, b' ');
+    text::put_decimal(out, p, n)
+}
+
+pub fn put_refusal(out: &mut [u8], at: usize, refusal: u8, place: usize) -> usize
+    ensures { λ r. ⌜ Put (now (out .entry)) at (refusalLine refusal place) r (now (out .exit)) ⌝ }
+{
+    let p = text::put_bytes(out, at, b"refused ");
+    let q = text::put_decimal(out, p, refusal as u64);
+    let r = text::put_bytes(out, q, b" at ");
+    let s = text::put_decimal(out, r, place as u64);
+    text::put_bytes(out, s, b"\n")
+}
