@@ -3,6 +3,8 @@
 //! - `site-bounds stdin`, `site-bounds stdout`: the files of `crates/site_bounds`.
 //! - `wanted-cases stdin`, `wanted-cases stdout`: the files of `crates/wanted_cases`.
 //! - `tick-cases stdin`, `tick-cases stdout`: the files of `crates/tick_cases`.
+//! - `simulated-day stdin`, `simulated-day stdout`: the files of `crates/simulated_day`; `simulated-day samples`: what that
+//!   program prints of the samples alone.
 //! - `timetable FILE`: what the timetable program prints of a file.
 //! - `replay FILE`: what the replay program prints of a site file and the ticks on standard input.
 //! - `site-files FOLDER`: the site files that the timetable's test programs read.
@@ -16,6 +18,7 @@ mod periods;
 mod poll;
 mod random;
 mod replay;
+mod simulated_day;
 mod site;
 mod tick;
 mod tick_cases;
@@ -65,6 +68,9 @@ fn main() -> Result<()> {
         ["wanted-cases", "stdout"] => out.write_all(wanted_answers().as_bytes()),
         ["tick-cases", "stdin"] => out.write_all(&framed(&tick_cases::cases())),
         ["tick-cases", "stdout"] => out.write_all(tick_answers().as_bytes()),
+        ["simulated-day", "stdin"] => out.write_all(&site::bytes(&simulated_day::site())),
+        ["simulated-day", "stdout"] => out.write_all(simulated_day::print(&simulated_day::site()).as_bytes()),
+        ["simulated-day", "samples"] => out.write_all(simulated_day::print_samples().as_bytes()),
         ["timetable", file] => out.write_all(timetable::print(&std::fs::read(file)?).as_bytes()),
         ["replay", file] => {
             let mut ticks = Vec::new();
