@@ -218,6 +218,8 @@ impl Run<'_> {
             if number == 1 {
                 self.tally.refused(answer.refusal);
             }
+            self.tally.count("ticks accepted", (answer.refusal == 0) as u64);
+            self.tally.count("lanes released", (answer.released != 0) as u64);
             self.state = answer.state;
             let line = tick_line(&answer);
             if line != self.printed || answer.released != 0 {
