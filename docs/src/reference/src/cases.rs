@@ -5,19 +5,20 @@ use crate::periods::{halves, Counts, Periods};
 use crate::poll::poll;
 use crate::random::Random;
 use crate::site::{self, bytes, Site, TIMINGS, UNUSED};
+use crate::tally::Tally;
 use crate::tick_run::{hex, wish_words};
 use crate::timetable::DAYS;
 use crate::wanted::{self, cycle, decide, measures, Command, Measures};
 
 const CASES: usize = 5000;
-const SEED: u64 = 1;
+pub const SEED: u64 = 1;
 const POLL_BUFFER: usize = 64;
 
 pub struct Case {
-    file: Vec<u8>,
-    clock: Clock,
-    commands: [Command; 2],
-    periods: Periods,
+    pub file: Vec<u8>,
+    pub clock: Clock,
+    pub commands: [Command; 2],
+    pub periods: Periods,
 }
 
 // The payload: two-byte numbers.
@@ -57,11 +58,22 @@ fn poll_words(site: &Site, p: &Periods) -> String {
     }
 }
 
-pub fn line(case: &Case) -> String {
-    match site::read(&case.file) {
-        Err(r) => format!("site {} at {}\n", r.number, r.place),
-        Ok(site) => format!("{} {}\n", decision_words(&site, case), poll_words(&site, &case.periods)),
-    }
+/// A case's line, with a decision and a poll, or why its file is refused.
+pub fn line(case: &Case, tally: &mut Tally) -> String {
+    let site = match site::read(&case.file) {
+        Err(r) => {
+            tally.refused(r.number);
+            return format!("site {} at {}\n", r.number, r.place);
+        }
+        Ok(site) => site,
+    };
+    let (n, m) = wanted::lanes(&site);
+    tally.count("sites", 1);
+    tally.count(if case.periods.spoilt(n, m) { "states spoilt" } else { "states in range" }, 1);
+    tally.count("decisions", 1);
+    tally.count("polls", 1);
+    tally.refused(wanted::refusal(&site, case.clock, case.commands, &case.periods));
+    format!("{} {}\n", decision_words(&site, case), poll_words(&site, &case.periods))
 }
 
 // Periods in range.
@@ -125,7 +137,7 @@ pub fn periods(r: &mut Random, n: usize, m: usize) -> Periods {
 
 // Sites in range.
 
-fn timings(r: &mut Random) -> Vec<u16> {
+pub fn timings(r: &mut Random) -> Vec<u16> {
     let mut row: Vec<u16> = TIMINGS.iter().map(|(low, high)| r.edged(*low, *high)).collect();
     row[4] = r.edged(row[3], 100);
     row
@@ -372,7 +384,7 @@ fn damage_lane(r: &mut Random, p: &mut Periods) {
     }
 }
 
-fn damage_period(r: &mut Random, p: &mut Periods) {
+pub fn damage_period(r: &mut Random, p: &mut Periods) {
     match r.from(0, 9) {
         0..=4 => damage_count(r, p),
         5..=7 => damage_lane(r, p),
@@ -409,7 +421,11 @@ pub fn damage_command(r: &mut Random, commands: &mut [Command; 2]) {
     }
 }
 
-fn damage_file(r: &mut Random, file: &mut Vec<u8>) {
+pub fn damage_file(r: &mut Random, file: &mut Vec<u8>) {
+    // no number is left
+    if file.len() < 2 {
+        return;
+    }
     match r.from(0, 3) {
         0 => file.truncate(r.from(0, file.len() as u64 - 1) as usize),
         1 => file.resize(file.len() + r.from(1, 3) as usize, 0),
@@ -442,8 +458,8 @@ fn random_case(r: &mut Random) -> Case {
     case
 }
 
-pub fn cases() -> Vec<Case> {
+pub fn cases(seed: u64) -> Vec<Case> {
     assert_eq!(calendar::weekday(Date { year: 2000, month: 1, day: 1 }), 6);
-    let mut r = Random::new(SEED);
+    let mut r = Random::new(seed);
     (0..CASES).map(|_| random_case(&mut r)).collect()
 }

@@ -3,6 +3,12 @@
 //! - `site-bounds stdin`, `site-bounds stdout`: the files of `crates/site_bounds`.
 //! - `wanted-cases stdin`, `wanted-cases stdout`: the files of `crates/wanted_cases`.
 //! - `tick-cases stdin`, `tick-cases stdout`: the files of `crates/tick_cases`.
+//! - `random PROGRAM SEED FOLDER`: fresh cases of a seed for one of these three programs, as FOLDER/stdin, and what they give,
+//!   as FOLDER/stdout; prints how many of each kind they are.
+//! - `random timetable SEED FOLDER`: site files for the timetable program, FOLDER/0/site.bin and so on, and what it prints of
+//!   all of them, as FOLDER/stdout.
+//! - `simulated-day stdin`, `simulated-day stdout`: the files of `crates/simulated_day`; `simulated-day samples`: what that
+//!   program prints of the samples alone.
 //! - `timetable FILE`: what the timetable program prints of a file.
 //! - `replay FILE`: what the replay program prints of a site file and the ticks on standard input.
 //! - `replay-ticks`: the ticks of `crates/replay`.
@@ -18,9 +24,12 @@ mod lanes;
 mod periods;
 mod poll;
 mod random;
+mod random_cases;
 mod replay;
 mod replay_files;
+mod simulated_day;
 mod site;
+mod tally;
 mod tick;
 mod tick_cases;
 mod tick_run;
@@ -29,33 +38,49 @@ mod timings;
 mod wanted;
 
 use std::io::{Read, Result, Write};
+use tally::Tally;
 
 /// Each case behind its length in two bytes.
 fn framed(cases: &[Vec<u8>]) -> Vec<u8> {
+    assert!(cases.len() < 65536 && cases.iter().all(|c| c.len() < 65536));
     cases.iter().flat_map(|c| [&(c.len() as u16).to_be_bytes()[..], c].concat()).collect()
 }
 
-fn site_bounds_answers() -> String {
+/// What `crates/site_bounds` prints.
+fn site_answers(files: &[Vec<u8>], tally: &mut Tally) -> String {
     let answer = |file: &Vec<u8>| match site::read(file) {
         Ok(site) => {
             assert_eq!(&site::bytes(&site), file);
+            tally.count("sites", 1);
             "accepted and rewritten\n".to_string()
         }
-        Err(r) => format!("refused {} at {}\n", r.number, r.place),
+        Err(r) => {
+            tally.refused(r.number);
+            format!("refused {} at {}\n", r.number, r.place)
+        }
     };
-    files::bound_files().iter().map(answer).collect()
+    files.iter().map(answer).collect()
 }
 
-fn wanted_cases() -> Vec<Vec<u8>> {
-    cases::cases().iter().map(cases::payload).collect()
-}
-
-fn wanted_answers() -> String {
-    cases::cases().iter().map(cases::line).collect()
-}
-
-fn tick_answers() -> String {
-    tick_cases::cases().iter().map(|case| tick_run::answer(case)).collect()
+/// The stored cases of a program, or fresh ones of a seed, and what they give.
+fn cases_of(program: &str, seed: Option<u64>, tally: &mut Tally) -> (Vec<Vec<u8>>, String) {
+    match program {
+        "site-bounds" => {
+            let files = seed.map_or_else(files::bound_files, random_cases::files);
+            let answers = site_answers(&files, tally);
+            (files, answers)
+        }
+        "wanted-cases" => {
+            let cases = cases::cases(seed.unwrap_or(cases::SEED));
+            let answers = cases.iter().map(|case| cases::line(case, tally)).collect();
+            (cases.iter().map(cases::payload).collect(), answers)
+        }
+        _ => {
+            let cases = seed.map_or_else(tick_cases::cases, random_cases::tick_cases);
+            let answers = cases.iter().map(|case| tick_run::answer(case, tally)).collect();
+            (cases, answers)
+        }
+    }
 }
 
 fn main() -> Result<()> {
@@ -63,12 +88,30 @@ fn main() -> Result<()> {
     let words: Vec<&str> = words.iter().map(String::as_str).collect();
     let mut out = std::io::stdout();
     match words[..] {
-        ["site-bounds", "stdin"] => out.write_all(&framed(&files::bound_files())),
-        ["site-bounds", "stdout"] => out.write_all(site_bounds_answers().as_bytes()),
-        ["wanted-cases", "stdin"] => out.write_all(&framed(&wanted_cases())),
-        ["wanted-cases", "stdout"] => out.write_all(wanted_answers().as_bytes()),
-        ["tick-cases", "stdin"] => out.write_all(&framed(&tick_cases::cases())),
-        ["tick-cases", "stdout"] => out.write_all(tick_answers().as_bytes()),
+        [program @ ("site-bounds" | "wanted-cases" | "tick-cases"), stream @ ("stdin" | "stdout")] => {
+            let (cases, answers) = cases_of(program, None, &mut Tally::default());
+            out.write_all(if stream == "stdin" { framed(&cases) } else { answers.into_bytes() }.as_slice())
+        }
+        ["random", program @ ("site-bounds" | "wanted-cases" | "tick-cases"), seed, folder] => {
+            let tally = &mut Tally::default();
+            let (cases, answers) = cases_of(program, Some(seed.parse().expect("a seed")), tally);
+            std::fs::write(format!("{folder}/stdin"), framed(&cases))?;
+            std::fs::write(format!("{folder}/stdout"), answers)?;
+            out.write_all(tally.print().as_bytes())
+        }
+        ["random", "timetable", seed, folder] => {
+            let files = random_cases::timetable_files(seed.parse().expect("a seed"));
+            for (i, file) in files.iter().enumerate() {
+                std::fs::create_dir_all(format!("{folder}/{i}"))?;
+                std::fs::write(format!("{folder}/{i}/site.bin"), file)?;
+            }
+            let printed: String = files.iter().map(|file| timetable::print(file)).collect();
+            std::fs::write(format!("{folder}/stdout"), printed)?;
+            writeln!(out, "{} timetables", files.len())
+        }
+        ["simulated-day", "stdin"] => out.write_all(&site::bytes(&simulated_day::site())),
+        ["simulated-day", "stdout"] => out.write_all(simulated_day::print(&simulated_day::site()).as_bytes()),
+        ["simulated-day", "samples"] => out.write_all(simulated_day::print_samples().as_bytes()),
         ["timetable", file] => out.write_all(timetable::print(&std::fs::read(file)?).as_bytes()),
         ["replay", file] => {
             let mut ticks = Vec::new();

@@ -79,7 +79,7 @@ fn lane_spoilt(lane: &KeptLane, running: bool) -> bool {
 }
 
 /// 13: of a site that a file could give.
-fn state_spoilt(site: &Site, state: &State) -> bool {
+pub fn state_spoilt(site: &Site, state: &State) -> bool {
     let (n, m) = lanes(site);
     let Some(interval) = Interval::of(state.interval) else {
         return true;

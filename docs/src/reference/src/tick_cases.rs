@@ -22,7 +22,7 @@ const DARK: Command = Command { kind: 1, rate: 0, table: 0 };
 const GREEN: Command = Command { kind: 2, rate: 0, table: 0 };
 const RESPONSIVE: Command = Command { kind: 4, rate: 600, table: 1 };
 
-fn fixed(rate: u16) -> Command {
+pub fn fixed(rate: u16) -> Command {
     Command { kind: 3, rate, table: 0 }
 }
 
@@ -31,7 +31,7 @@ fn at(year: u16, month: u16, day: u16, minute: u32) -> Clock {
 }
 
 /// All samples 0 but for working lanes, under a manual command, on a Monday at eight.
-fn quiet(manual: Command) -> Input {
+pub fn quiet(manual: Command) -> Input {
     Input {
         clock: at(2025, 1, 6, 480),
         demand: [0; 4],
@@ -753,7 +753,7 @@ fn cut_operations() -> Vec<Vec<u8>> {
 
 /// Short times, so that metering is reached soon; now and then any time. Of 24 sites one behind the other each has
 /// another n, service mode and V.
-fn short_timings(r: &mut Random, k: u16) -> Vec<u16> {
+pub fn short_timings(r: &mut Random, k: u16) -> Vec<u16> {
     let mut row: Vec<u16> = TIMINGS.iter().map(|(low, high)| r.number(*low, (*high).min(low + 15))).collect();
     row[0] = 1 + k % 4;
     row[1] = k / 4 % 2;
@@ -777,8 +777,8 @@ fn levels(r: &mut Random, tables: u16) -> Vec<[u16; 5]> {
         .collect()
 }
 
-struct Setting {
-    site: Site,
+pub struct Setting {
+    pub site: Site,
     starts: Vec<u16>,
     dates: Vec<Date>,
     tables: u16,
@@ -787,11 +787,11 @@ struct Setting {
     demand: u64,
 }
 
-fn setting(r: &mut Random, k: u16) -> Setting {
+pub fn setting(r: &mut Random, timings: impl Fn(&mut Random) -> Vec<u16>) -> Setting {
     let (starts, tables) = (cases::starts(r), r.number(1, 4));
     let date = cases::date(r);
     let dates = vec![date, cases::date(r), date];
-    let timings = short_timings(r, k);
+    let timings = timings(r);
     let entries = cases::entries(r, &starts, tables);
     let holidays = cases::holidays(r, date);
     let site = Site { timings, entries, holidays, levels: levels(r, tables) };
@@ -799,7 +799,7 @@ fn setting(r: &mut Random, k: u16) -> Setting {
 }
 
 /// Mostly to meter, often at a high rate.
-fn command(r: &mut Random, s: &Setting, none: u64) -> Command {
+pub fn command(r: &mut Random, s: &Setting, none: u64) -> Command {
     if r.percent(none) {
         return NONE;
     }
@@ -829,11 +829,11 @@ fn sample(r: &mut Random, s: &Setting, count: u16) -> Sample {
     }
 }
 
-fn jump(r: &mut Random, s: &Setting) -> Clock {
+pub fn jump(r: &mut Random, s: &Setting) -> Clock {
     Clock { date: r.pick(&s.dates), tenth: cases::tenth(r, &s.starts) }
 }
 
-fn samples(r: &mut Random, s: &Setting, count: u16, input: &mut Input) {
+pub fn samples(r: &mut Random, s: &Setting, count: u16, input: &mut Input) {
     let (n, m) = (s.site.timings[0] as usize, s.site.timings[14] as usize);
     input.demand = metered(r, n, s.demand);
     input.passage = metered(r, n, 35);
@@ -841,6 +841,11 @@ fn samples(r: &mut Random, s: &Setting, count: u16, input: &mut Input) {
     if m < 6 && r.percent(5) {
         input.mainline[5] = Sample { working: 2, occupied: 101, vehicles: 2, speed: 251 };
     }
+}
+
+/// The lanes' samples of one tick alone: the mainline's vehicles are few, so that the flow stands among the levels.
+pub fn busy_samples(r: &mut Random, s: &Setting, input: &mut Input) {
+    samples(r, s, 6, input);
 }
 
 fn damage_sample(r: &mut Random, s: &Setting, input: &mut Input) {
@@ -857,7 +862,7 @@ fn damage_sample(r: &mut Random, s: &Setting, input: &mut Input) {
 }
 
 /// One of the three, at times two.
-fn damage_input(r: &mut Random, s: &Setting, input: &mut Input) {
+pub fn damage_input(r: &mut Random, s: &Setting, input: &mut Input) {
     for _ in 0..r.pick(&[1, 1, 1, 2]) {
         match r.from(0, 2) {
             0 => cases::damage_clock(r, &mut input.clock),
@@ -902,21 +907,20 @@ fn interruption(r: &mut Random, s: &Setting, input: &Input, ops: &mut Vec<Op>) {
     }
 }
 
-fn random_run(r: &mut Random, k: u16) -> Vec<u8> {
-    let s = setting(r, k);
+pub fn random_run(r: &mut Random, s: &Setting) -> Vec<u8> {
     let mut input = quiet(fixed(1200));
-    input.clock = jump(r, &s);
+    input.clock = jump(r, s);
     let mut ops = Vec::new();
     for _ in 0..r.from(25, 45) {
         if r.percent(25) {
-            input.commands = [command(r, &s, 40), command(r, &s, 60)];
+            input.commands = [command(r, s, 40), command(r, s, 60)];
         }
         if r.percent(15) || input.clock.tenth > 863_999 {
-            input.clock = jump(r, &s);
+            input.clock = jump(r, s);
         }
         let count = length(r);
-        samples(r, &s, count, &mut input);
-        interruption(r, &s, &input, &mut ops);
+        samples(r, s, count, &mut input);
+        interruption(r, s, &input, &mut ops);
         ops.push(Op::Ticks(count, input));
         input.clock.tenth += count as u32;
     }
@@ -959,7 +963,7 @@ fn interval_limit(r: &mut Random, t: &[u16], interval: u16) -> u16 {
     }
 }
 
-fn strange_state(r: &mut Random, t: &[u16], cycle: u16) -> State {
+pub fn strange_state(r: &mut Random, t: &[u16], cycle: u16) -> State {
     let (n, m) = (t[0] as usize, t[14] as usize);
     let interval = r.pick(&[7, 7, 7, 7, 7, 7, 8, 8, 8, 0, 1, 2, 3, 4, 5, 6, 9]);
     let limit = interval_limit(r, t, interval);
@@ -977,18 +981,17 @@ fn strange_state(r: &mut Random, t: &[u16], cycle: u16) -> State {
     state
 }
 
-fn strange_states(r: &mut Random, k: u16) -> Vec<u8> {
-    let s = setting(r, k);
+pub fn strange_states(r: &mut Random, s: &Setting) -> Vec<u8> {
     let t = &s.site.timings;
     let mut ops = Vec::new();
     for _ in 0..15 {
         let rate = r.number(150, 1800);
         let cycle = (36000 * t[2] as u32).div_ceil(rate as u32) as u16;
         ops.push(Op::State(strange_state(r, t, cycle)));
-        let mut input = quiet(if r.percent(75) { fixed(rate) } else { command(r, &s, 20) });
-        input.clock = jump(r, &s);
+        let mut input = quiet(if r.percent(75) { fixed(rate) } else { command(r, s, 20) });
+        input.clock = jump(r, s);
         let count = r.pick(&[1, 1, 2, 3, 40]);
-        samples(r, &s, count, &mut input);
+        samples(r, s, count, &mut input);
         if r.percent(60) {
             input.demand[..t[0] as usize].fill(1);
         }
@@ -1002,7 +1005,13 @@ pub fn cases() -> Vec<Vec<u8>> {
     let mut out = [paper(), limits(), spoilt_states(), spoilt_sites(), refused_inputs()].concat();
     out.extend([periods(), closing_wish()]);
     out.extend(cut_operations());
-    out.extend((0..STRANGE).map(|k| strange_states(&mut r, 7 * k)));
-    out.extend((0..RUNS).map(|k| random_run(&mut r, k)));
+    for k in 0..STRANGE {
+        let s = setting(&mut r, |r| short_timings(r, 7 * k));
+        out.push(strange_states(&mut r, &s));
+    }
+    for k in 0..RUNS {
+        let s = setting(&mut r, |r| short_timings(r, k));
+        out.push(random_run(&mut r, &s));
+    }
     out
 }

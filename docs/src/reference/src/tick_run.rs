@@ -7,7 +7,8 @@
 use crate::calendar::{Clock, Date};
 use crate::periods::{halves, Counts, Sample};
 use crate::site::{self, Site};
-use crate::tick::{poll_record, power_up, tick, Answer, Input, KeptLane, State};
+use crate::tally::Tally;
+use crate::tick::{poll_record, power_up, state_spoilt, tick, Answer, Input, KeptLane, State};
 use crate::wanted::{Command, Wish};
 use std::fmt::Write;
 
@@ -187,7 +188,7 @@ fn state_line(state: &State) -> String {
 
 // Runs.
 
-struct Run {
+struct Run<'a> {
     /// The site that the file gave, and the present one.
     given: Site,
     site: Site,
@@ -195,9 +196,10 @@ struct Run {
     /// The tick line printed last.
     printed: String,
     out: String,
+    tally: &'a mut Tally,
 }
 
-impl Run {
+impl Run<'_> {
     fn print_state(&mut self) {
         self.out += &state_line(&self.state);
     }
@@ -210,8 +212,14 @@ impl Run {
     }
 
     fn ticks(&mut self, count: u16, mut input: Input) {
+        self.tally.count("ticks", count as u64);
         for number in 1..=count {
             let answer = tick(&self.site, &self.state, &input);
+            if number == 1 {
+                self.tally.refused(answer.refusal);
+            }
+            self.tally.count("ticks accepted", (answer.refusal == 0) as u64);
+            self.tally.count("lanes released", (answer.released != 0) as u64);
             self.state = answer.state;
             let line = tick_line(&answer);
             if line != self.printed || answer.released != 0 {
@@ -226,8 +234,12 @@ impl Run {
     fn poll(&mut self) {
         let line = match poll_record(&self.site, &self.state, POLL_BUFFER) {
             Ok(record) => format!("poll 0 {}\n", hex(&record)),
-            Err(refusal) => format!("poll {refusal}\n"),
+            Err(refusal) => {
+                self.tally.count("polls refused", 1);
+                format!("poll {refusal}\n")
+            }
         };
+        self.tally.count("polls", 1);
         self.out += &line;
     }
 
@@ -235,6 +247,8 @@ impl Run {
         match op {
             Op::Ticks(count, input) => self.ticks(count, input),
             Op::State(state) => {
+                let spoilt = state_spoilt(&self.given, &state);
+                self.tally.count(if spoilt { "states spoilt" } else { "states in range" }, 1);
                 self.state = state;
                 self.print_state();
             }
@@ -247,15 +261,19 @@ impl Run {
 }
 
 /// What a case prints.
-pub fn answer(case: &[u8]) -> String {
+pub fn answer(case: &[u8], tally: &mut Tally) -> String {
     let length = u16::from_be_bytes([case[0], case[1]]) as usize;
     let (file, operations) = case[2..].split_at(length);
     let site = match site::read(file) {
         Ok(site) => site,
-        Err(r) => return format!("refused {} at {}\n", r.number, r.place),
+        Err(r) => {
+            tally.refused(r.number);
+            return format!("refused {} at {}\n", r.number, r.place);
+        }
     };
+    tally.count("sites", 1);
     let mut run =
-        Run { given: site.clone(), site, state: State::default(), printed: String::new(), out: String::new() };
+        Run { given: site.clone(), site, state: State::default(), printed: String::new(), out: String::new(), tally };
     run.power_up();
     let mut words = Words::of(operations);
     while let Some(op) = words.op() {
