@@ -6,8 +6,8 @@ use crate::random::Random;
 use crate::site::{bytes, Site, TIMINGS, UNUSED};
 use crate::tick::{Input, State};
 use crate::tick_cases::{
-    busy_samples, command, damage_input, fixed, jump, quiet, random_run, samples, setting, short_timings,
-    strange_state, strange_states, Setting,
+    command, damage_input, fixed, jump, quiet, random_run, samples, setting, short_timings, strange_state,
+    strange_states, Setting,
 };
 use crate::tick_run::{payload, Op};
 
@@ -124,7 +124,7 @@ fn any_state(r: &mut Random, s: &Setting) -> State {
 fn sound_input(r: &mut Random, s: &Setting) -> Input {
     let mut input = quiet(if r.percent(75) { fixed(r.number(150, 1800)) } else { command(r, s, 40) });
     input.clock = jump(r, s);
-    busy_samples(r, s, &mut input);
+    samples(r, s, 6, &mut input);
     input
 }
 
@@ -215,8 +215,9 @@ fn busy_run(r: &mut Random, s: &Setting) -> Vec<Op> {
             input.clock = jump(r, s);
         }
         let count = r.number(1, 3);
-        samples(r, s, 1, &mut input);
-        busy_samples(r, s, &mut input);
+        // at times many vehicles
+        let few = r.pick(&[1, 6, 6]);
+        samples(r, s, few, &mut input);
         ops.push(Op::Ticks(count, input));
         input.clock.tenth += count as u32;
     }

@@ -833,6 +833,7 @@ pub fn jump(r: &mut Random, s: &Setting) -> Clock {
     Clock { date: r.pick(&s.dates), tenth: cases::tenth(r, &s.starts) }
 }
 
+/// For so many ticks with one input: where they are few, vehicles are frequent.
 pub fn samples(r: &mut Random, s: &Setting, count: u16, input: &mut Input) {
     let (n, m) = (s.site.timings[0] as usize, s.site.timings[14] as usize);
     input.demand = metered(r, n, s.demand);
@@ -841,11 +842,6 @@ pub fn samples(r: &mut Random, s: &Setting, count: u16, input: &mut Input) {
     if m < 6 && r.percent(5) {
         input.mainline[5] = Sample { working: 2, occupied: 101, vehicles: 2, speed: 251 };
     }
-}
-
-/// The lanes' samples of one tick alone: the mainline's vehicles are few, so that the flow stands among the levels.
-pub fn busy_samples(r: &mut Random, s: &Setting, input: &mut Input) {
-    samples(r, s, 6, input);
 }
 
 fn damage_sample(r: &mut Random, s: &Setting, input: &mut Input) {
