@@ -66,7 +66,15 @@ fn group_of(state: &State, n: usize) -> Group {
 
 /// 14: a site record that no file could give.
 fn site_spoilt(site: &Site) -> bool {
-    site::read(&site::bytes(site)).as_ref() != Ok(site)
+    let ok = |row: &[u16], f: fn(&[u16], usize) -> bool| (0..row.len()).all(|i| f(row, i));
+    !(site.timings.len() == 15
+        && ok(&site.timings, site::timing_ok)
+        && site.entries.len() <= 16
+        && site.entries.iter().all(|row| ok(row, site::entry_ok))
+        && site.holidays.len() <= 16
+        && site.holidays.iter().all(|row| ok(row, site::holiday_ok))
+        && site.levels.len() <= 24
+        && site.levels.iter().all(|row| ok(row, site::level_ok)))
 }
 
 /// A lane's number out of range, or a colour other than red where the lanes do not run.
