@@ -48,7 +48,8 @@ loop-less : tie.Need-loop-less Inv-loop μ-loop
 loop-less c = search needs
 
 loop-again : tie.Need-loop-again Inv-loop μ-loop
-loop-again c = let p = c .before .before in
+loop-again c =
+    let p = c .before .before in
     let e = p .before .before .before in
     let f = e .before in
     let h = f .before .before .before in
@@ -63,7 +64,8 @@ same-length : tie.Need-same-length Inv-loop μ-loop
 same-length c = search needs
 
 returns : tie.Need-returns Inv-loop μ-loop
-returns c = let h = c .before in
+returns c =
+    let h = c .before in
     let a = h .before .before .before .args in
     h .loop .inv .3 _ _ (rw (hex-end (now (a .bytes)) (h .loop .i) (search needs)) (put-nothing _ _ (h .loop .inv .1)))
 

@@ -22,7 +22,8 @@ same-length c = search needs
 
 returns : tie.Need-returns
 unfolding pollLine
-returns c = let p3 = c .before .before in
+returns c =
+    let p3 = c .before .before in
     let p2 = p3 .before .before .before .before in
     let p1 = p2 .before .before .before .before in
     put-then (search needs) (p1 .put-bytes .ensures)

@@ -34,13 +34,15 @@ loop-less : tie.Need-loop-less Inv-loop μ-loop
 loop-less c = search needs
 
 loop-again : tie.Need-loop-again Inv-loop μ-loop
-loop-again c = let h = c .before .before .before in
+loop-again c =
+    let h = c .before .before .before in
     let b = now (h .before .before .args .bytes) in
     let l : h .loop .i < length b = search needs in
     (search needs, rw (c .after-byte .ensures, add-one) (rw (drop-cons b (h .loop .i) 0 l) at (h .loop .inv .1)))
 
 returns : tie.Need-returns Inv-loop μ-loop
-returns c = let h = c .before in
+returns c =
+    let h = c .before in
     let b = now (h .before .before .args .bytes) in
     let d : drop (h .loop .i) b ≡ [] = drop-of-length-le b {i = h .loop .i} (omega arith) in
     rw d at (h .loop .inv .1)

@@ -1,3 +1,4 @@
+-- Each case puts the word that the definition gives it.
 use borrow.Author.Needs.{needs}
 use Rattle.tick_text.proofs.decided.put_wish.Statement.{statement}
 use Rattle.tick_text.proofs.decided.put_wish.Tie as tie

@@ -28,7 +28,8 @@ same-length c = search needs
 
 returns : tie.Need-returns
 unfolding wishedText
-returns c = let p3 = c .before .before in
+returns c =
+    let p3 = c .before .before in
     let p2 = p3 .before .before .before .before .before in
     let p1 = p2 .before .before .before .before in
     rw (← p3 .before .rate-of .ensures)

@@ -28,7 +28,8 @@ same-length c = search needs
 
 returns : tie.Need-returns
 unfolding lampsText
-returns c = let p5 = c .before .before in
+returns c =
+    let p5 = c .before .before in
     let p4 = p5 .before .before .before .before .before in
     let p3 = p4 .before .before .before .before .before in
     let p2 = p3 .before .before .before .before in

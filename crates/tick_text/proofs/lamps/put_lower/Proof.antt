@@ -34,7 +34,8 @@ same-length : tie.Need-same-length
 same-length c = search needs
 
 returns : tie.Need-returns
-returns c = let p = c .before .before in let d = p .before in let e = d .before in let f = e .before in let g = f .before in
+returns c =
+    let p = c .before .before in let d = p .before in let e = d .before in let f = e .before in let g = f .before in
     rw (← g .lamp-digit .ensures, ← f .lamp-digit2 .ensures, ← e .lamp-digit3 .ensures, ← d .lamp-digit4 .ensures) (p .put-first .ensures)
 
 pub put-lower-spec : {M : Type 1} → statement M
