@@ -21,19 +21,28 @@ pub struct Run {
 // Output waits until there is so much. Lines are far shorter than what the buffer then has left.
 const MUCH: usize = 60000;
 
-pub fn write_out(out: &[u8], n: usize) {
-    if n <= out.len() {
-        io::write_all(STDOUT_FILENO, &out[..n]);
+// Writes the first n bytes out. A failure is reported on standard error.
+pub fn write_out(out: &[u8], n: usize) -> bool {
+    if out.len() < n {
+        return false;
     }
+    if io::write_all(STDOUT_FILENO, &out[..n]) {
+        return true;
+    }
+    os::fail(b"standard output");
+    false
 }
 
-// How many bytes wait, after much is written out.
-fn still_waiting(out: &[u8], n: usize) -> usize {
-    if n < MUCH {
-        return n;
+// The run after much of its output is written out; it ends where that fails.
+fn flushed(mut run: Run, out: &[u8]) -> Run {
+    if run.waiting < MUCH {
+        return run;
     }
-    write_out(out, n);
-    0
+    if !write_out(out, run.waiting) {
+        run.ended = true;
+    }
+    run.waiting = 0;
+    run
 }
 
 // Power-up, and the heading.
@@ -96,14 +105,15 @@ fn end_line(site: Site, run: Run, out: &mut [u8]) -> Run {
     let ticked = tick::tick(site, before, input);
     let state = ticked.state;
     let end = put_answer(site, number, ticked, out, run.waiting);
-    Run {
+    let after = Run {
         state,
         lines: number,
         begun: false,
         scan: tick_line::line_start(),
         ended: false,
-        waiting: still_waiting(out, end),
-    }
+        waiting: end,
+    };
+    flushed(after, out)
 }
 
 // The place of the first newline at or behind a place, or the end.
