@@ -11,10 +11,9 @@ use Rattle.ranges.specs.Sections.{rangeOf, mayBeUnused}
 use Rattle.ranges.proofs.RangeLaws.{ends, rate-ends}
 use Rattle.site.specs.declared.Site.{Site}
 use Rattle.site.specs.Record.{spoiltSite}
-use Rattle.site.proofs.Sizes.{Sized}
 use Rattle.site.proofs.SpoiltLaws.{sound-site, number-within}
 
-module _ (x : Site) (sized : Sized x) (ok : spoiltSite x ≡ false) where
+module _ (x : Site) (ok : spoiltSite x ≡ false) where
   pub entry-rate : (i : ℕ) → i < x .entries → isWithin (rateRange (getD (x .plan) (i * 5 + 2) 0)) (getD (x .plan) (i * 5 + 3) 0) ≡ true
   unfolding rangeOf mayBeUnused entryRange
   entry-rate i h =

@@ -3,15 +3,14 @@ use Prim.Native.Nat.{ℕ, _≤_, _<_}
 use mathlib.Core.Path.{_≡_, refl}
 use mathlib.Core.Bool.{true, false}
 use native.Mathlib.Omega.{arith}
-use lib.ListN.{getD, take}
-use lib.Seq.{take-all}
+use lib.ListN.{getD}
+use lib.Seq.{getD-take}
 use Rattle.ranges.specs.declared.Section.the-variants.{Timings}
 use Rattle.ranges.specs.Ranges.{isWithin, timingRange}
 use Rattle.ranges.specs.Sections.{rangeOf, mayBeUnused}
 use Rattle.ranges.proofs.RangeLaws.{ends}
 use Rattle.site.specs.declared.Site.{Site}
 use Rattle.site.specs.Record.{spoiltSite}
-use Rattle.site.proofs.Sizes.{Sized}
 use Rattle.site.proofs.SpoiltLaws.{sound-site, number-within}
 
 -- Maximum green, timing 4, is no shorter than minimum green, timing 3.
@@ -28,15 +27,14 @@ pub record TimingsGood (x : Site) : Type 0 where
   pub red-most : getD (x .timings) 6 0 ≤ 100
   pub mainline-most : getD (x .timings) 14 0 ≤ 6
 
-module _ (x : Site) (sized : Sized x) (ok : spoiltSite x ≡ false) where
+module _ (x : Site) (ok : spoiltSite x ≡ false) where
   abbrev timing : ℕ → ℕ
   timing i = getD (x .timings) i 0
 
   pub timing-within : (i : ℕ) → i < 15 → isWithin (timingRange (getD (x .timings) 3 0) i) (getD (x .timings) i 0) ≡ true
   unfolding rangeOf mayBeUnused
   timing-within i h =
-      let whole : take 15 (x .timings) ≡ x .timings = take-all 15 (x .timings) (omega (arith, sized .timings)) in
-      rw whole at (number-within Timings 15 (x .timings) (sound-site x ok .timings) i h refl)
+      rw (getD-take 15 (x .timings) 3 0 (omega arith)) at (number-within Timings 15 (x .timings) (sound-site x ok .timings) i h refl)
 
   ends-of : (i : ℕ) → i < 15 → (timingRange (timing 3) i .low ≤ timing i) × (timing i ≤ timingRange (timing 3) i .high)
   ends-of i h = ends (timingRange (timing 3) i) (timing i) (timing-within i h)

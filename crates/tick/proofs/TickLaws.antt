@@ -5,7 +5,6 @@ use mathlib.Core.Bool.{Bool, true, false, cond}
 use native.Mathlib.Omega.{arith}
 use Rattle.site.specs.declared.Site.{Site}
 use Rattle.site.specs.Record.{meteredLanes, mainlineLanes, spoiltSite}
-use Rattle.site.proofs.Sizes.{Sized}
 use Rattle.site.proofs.TimingLaws.{timings-good}
 use Rattle.calendar.specs.Clock.{clockBad}
 use Rattle.inputs.specs.Samples.{samplesBad}
@@ -51,10 +50,10 @@ accepted x s i e =
     record { site = p .0; state = q .0; clock = r .0; samples = u .0; commands = v .0 }
 
 -- The timings of a site that is not spoilt.
-pub sound-timings : (x : Site) → Sized x → spoiltSite x ≡ false → Sound (timingsOf x)
+pub sound-timings : (x : Site) → spoiltSite x ≡ false → Sound (timingsOf x)
 unfolding timingsOf
-sound-timings x sized ok =
-    let g = timings-good x sized ok in
+sound-timings x ok =
+    let g = timings-good x ok in
     record {
       least = g .lanes-least;
       most = g .lanes-most;
@@ -72,23 +71,23 @@ metering-cycle Green g v h e = absurd (omega arith)
 metering-cycle (Metering rate) g v h e = cycle-least v rate h (omega (arith, g .0))
 metering-cycle Clear g v h e = absurd (omega arith)
 
-module _ (x : Site) (sized : Sized x) (s : State) (i : Input) (a : Accepted x s i) where
+module _ (x : Site) (s : State) (i : Input) (a : Accepted x s i) where
   wish-in : WishGood (decidedIn x s i .wish)
   unfolding decidedIn
-  wish-in = wish-good x sized (a .site) (i .clock) (i .manual) (i .centre) (countedIn x s i) (a .commands)
+  wish-in = wish-good x (a .site) (i .clock) (i .manual) (i .centre) (countedIn x s i) (a .commands)
 
   -- Its cycle is 720 ticks at the most, and some where metering goes on.
   pub cycle-in : cycleIn x s i ≤ 720
   unfolding cycleIn timingsOf
   cycle-in =
-      let g = timings-good x sized (a .site) in
+      let g = timings-good x (a .site) in
       let vehicles = timingsOf x .vehicles in
       rate-cases (decidedIn x s i .wish) (λ r. cycleTicks vehicles r ≤ 720) wish-in (rw (no-cycle vehicles) (omega arith))
       (λ r h. cycle-most vehicles r (g .vehicles-most) h)
 
   pub some-cycle : fromMetering (decidedIn x s i .wish) ≡ 7 → 1 ≤ cycleIn x s i
   unfolding cycleIn timingsOf
-  some-cycle e = metering-cycle (decidedIn x s i .wish) wish-in (timingsOf x .vehicles) (timings-good x sized (a .site) .vehicles-least) e
+  some-cycle e = metering-cycle (decidedIn x s i .wish) wish-in (timingsOf x .vehicles) (timings-good x (a .site) .vehicles-least) e
 
   pub tick-keeps : StateGood (acceptedTick x s i .state) (meteredLanes x) (mainlineLanes x)
   unfolding acceptedTick movedIn countedIn timingsOf
@@ -96,7 +95,7 @@ module _ (x : Site) (sized : Sized x) (s : State) (i : Input) (a : Accepted x s 
       let n = meteredLanes x in
       let m = mainlineLanes x in
       let g = state-good s n m (a .state) in
-      let h = timings-good x sized (a .site) .lanes-least in
+      let h = timings-good x (a .site) .lanes-least in
       let wish = decidedIn x s i .wish in
       record {
         group = moved-good (timesOf x) (timingsOf x) wish (cycleIn x s i) (i .lanes) (s .group) h (g .group);

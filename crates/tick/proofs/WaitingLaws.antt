@@ -11,7 +11,6 @@ use lib.Dec.{eqb}
 use lib.ListN.{getD}
 use Rattle.site.specs.declared.Site.{Site}
 use Rattle.site.specs.Record.{meteredLanes, mainlineLanes, spoiltSite}
-use Rattle.site.proofs.Sizes.{Sized}
 use Rattle.site.proofs.TimingLaws.{timings-good}
 use Rattle.lanes.specs.declared.Timings.{Timings}
 use Rattle.lanes.proofs.LaneLaws.{by-test}
@@ -89,12 +88,12 @@ bound-grows t ok a b h =
     both : {x y : ℕ} → x ≤ y → max a (t .maxgreen + t .yellow + t .minred) + x ≤ max b (t .maxgreen + t .yellow + t .minred) + y
     both p = omega arith
 
-module _ (x : Site) (sized : Sized x) (ok : spoiltSite x ≡ false) where
+module _ (x : Site) (ok : spoiltSite x ≡ false) where
   abbrev t : Timings
   t = timingsOf x
 
   sound : Sound (timingsOf x)
-  sound = sound-timings x sized ok
+  sound = sound-timings x ok
 
   -- What holds since power-up. Once the group is in metering, the lamps last shown are those of the state.
   record Going (c : Course) : Type 0 where
@@ -106,7 +105,7 @@ module _ (x : Site) (sized : Sized x) (ok : spoiltSite x ≡ false) where
   unfolding atPowerUp powerUpOf freshState timingsOf
   start =
       let n = meteredLanes x in
-      let g = fresh-good n (mainlineLanes x) (timings-good x sized ok .lanes-least) in
+      let g = fresh-good n (mainlineLanes x) (timings-good x ok .lanes-least) in
       rw ok (record { good = g; chain = chain-enter (timingsOf x) sound; lamps = λ z. absurd (omega arith) })
 
   module _ (c : Course) (call : Call) (going : Going c) (same : isAccepted c call ≡ true → call .site ≡ x) where
@@ -134,7 +133,7 @@ module _ (x : Site) (sized : Sized x) (ok : spoiltSite x ≡ false) where
         let s = c .state in
         let i = call .input in
         record {
-          good = tick-keeps x sized s i a;
+          good = tick-keeps x s i a;
           chain = chain-moved (timingsOf x) sound (timesOf x) (decidedIn x s i .wish) (cycleIn x s i) (i .lanes) (s .group) (going .good .group) (going .chain);
           lamps = λ _. refl;
         }
@@ -176,7 +175,7 @@ module _ (x : Site) (sized : Sized x) (ok : spoiltSite x ≡ false) where
       unfolding acceptedTick
       cycle-small e =
           let asked : cycleIn x s i ≤ most = subst (λ (r : Ticked). r .cycle ≤ most) (answer e) (w e .cycle) in
-          omega (arith, asked, cycle-in x sized s i (passed e))
+          omega (arith, asked, cycle-in x s i (passed e))
 
       metering-after : isAccepted c call ≡ true → movedIn x s i .group .interval ≡ 7
       unfolding acceptedTick
@@ -191,14 +190,14 @@ module _ (x : Site) (sized : Sized x) (ok : spoiltSite x ≡ false) where
       rank-falls e miss =
           rw (group-is e)
           (group-falls (timingsOf x) sound least j in-site (timesOf x) (decidedIn x s i .wish) (cycleIn x s i) (i .lanes) (s .group) (going .good .group) (going .chain)
-          (omega arith) (some-cycle x sized s i (passed e)) (cycle-small e) (demand-on e) (metering-after e) miss)
+          (omega arith) (some-cycle x s i (passed e)) (cycle-small e) (demand-on e) (metering-after e) miss)
 
       -- and at one that does, its green begins.
       begins : (e : isAccepted c call ≡ true) → eqb (movedIn x s i .released) (j + 1) ≡ true → greenBegins (j + 1) c call ≡ true
       unfolding greenBegins acceptedTick movedIn timingsOf
       begins e hit =
           let back : j + 1 - 1 ≡ j = omega arith in
-          let place : j < 4 = omega (arith, timings-good x sized ok .lanes-most) in
+          let place : j < 4 = omega (arith, timings-good x ok .lanes-most) in
           let n = meteredLanes x in
           let g = movedIn x s i .group in
           let before = shown-red (timingsOf x) sound least j in-site (timesOf x) (decidedIn x s i .wish) (cycleIn x s i) (i .lanes) (s .group) (going .good .group) (going .chain) hit in
@@ -243,20 +242,20 @@ module _ (x : Site) (sized : Sized x) (ok : spoiltSite x ≡ false) where
   reached c [] going same = going
   reached c (call ∷ before) going same = reached (onward c call) before (keeps c call going (same .0)) (same .1)
 
-pub waiting-bound : (x : Site) → Sized x → WaitingBound x
+pub waiting-bound : (x : Site) → WaitingBound x
 unfolding WaitingBound timingsOf
-waiting-bound x sized ok before run same i most least in-site waiting long =
+waiting-bound x ok before run same i most least in-site waiting long =
     let t = timingsOf x in
     let parts = split-run (λ c call. call .site ≡ x) (atPowerUp x) before run same in
     let c = courseAfter (atPowerUp x) before in
-    let going = reached x sized ok (atPowerUp x) before (start x sized ok) (parts .0) in
-    let sound = sound-timings x sized ok in
+    let going = reached x ok (atPowerUp x) before (start x ok) (parts .0) in
+    let sound = sound-timings x ok in
     let j = i - 1 in
     let place : i ≡ j + 1 = omega arith in
     let hj : j < meteredLanes x = omega arith in
     let low = group-rank-most t sound (min most 720) j (lanes-are hj) (c .state .group) (good-group-of (going .good .group)) (going .chain) in
     subst (λ (k : ℕ). beginsWithin k (waitingBound t most) c run ≡ true) (sym place)
-    (within x sized ok most j hj (waitingBound t most) c run going (parts .1)
+    (within x ok most j hj (waitingBound t most) c run going (parts .1)
     (subst (λ (k : ℕ). AtAccepted (Waits k most) c run) place waiting)
     (omega (arith, low, bound-grows t sound (min most 720) most (omega arith))) long)
   where

@@ -8,7 +8,6 @@ use lib.Dec.{ltb, eqb}
 use Rattle.loops.proofs.AnyLaws.{neither}
 use Rattle.site.specs.declared.Site.{Site}
 use Rattle.site.specs.Record.{spoiltSite, mainlineLanes}
-use Rattle.site.proofs.Sizes.{Sized}
 use Rattle.site.proofs.RowLaws.{entry-rate-ends, level-rate}
 use Rattle.calendar.specs.declared.clock.Clock.{Clock}
 use Rattle.inputs.specs.declared.Command.{Command}
@@ -57,7 +56,7 @@ mode-of : (mode : ℕ) → 3 ≤ kindOf mode → 2 ≤ mode
 unfolding kindOf
 mode-of mode = one-of (λ (k : ℕ). 3 ≤ k → 2 ≤ mode) (ltb mode 3) (mode + 1) 4 (λ e h. omega arith) (λ e h. omega (arith, ltb-false mode 3 e))
 
-module _ (x : Site) (sized : Sized x) (ok : spoiltSite x ≡ false) where
+module _ (x : Site) (ok : spoiltSite x ≡ false) where
   planned-good : (place : ℕ) → place ≤ x .entries → CommandGood (plannedOf (x .plan) place)
   unfolding plannedOf
   planned-good place l =
@@ -65,14 +64,14 @@ module _ (x : Site) (sized : Sized x) (ok : spoiltSite x ≡ false) where
       one-of CommandGood (eqb place 0) (record { kind = 1; rate = 0; table = 0 })
       (record { kind = kindOf (row .mode); rate = row .rate; table = row .table })
       (λ e h. absurd (omega arith))
-      (λ e h. entry-rate-ends x sized ok (place - 1) (omega (arith, eqb-false place 0 e)) (mode-of (row .mode) h))
+      (λ e h. entry-rate-ends x ok (place - 1) (omega (arith, eqb-false place 0 e)) (mode-of (row .mode) h))
 
   level-good : (place : ℕ) → place ≤ x .levels → ChoiceGood (levelChoice (x .tables) place)
   unfolding levelChoice
   level-good place l =
       one-of ChoiceGood (eqb place 0) (choice 0 Clear) (choice place (Metering (levelOf (x .tables) (place - 1) .rate)))
       (λ e. tt)
-      (λ e. level-rate x sized ok (place - 1) (omega (arith, eqb-false place 0 e)))
+      (λ e. level-rate x ok (place - 1) (omega (arith, eqb-false place 0 e)))
 
   measured-good : (c : Command) (t : Totals) → (150 ≤ c .rate) × (c .rate ≤ 1800) → ChoiceGood (measuredChoice c (x .tables) (x .levels) t)
   unfolding measuredChoice

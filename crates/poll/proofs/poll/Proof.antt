@@ -6,7 +6,6 @@ use Prim.Native.Nat.{_≤_}
 use lib.ListN.{length}
 use Rattle.output.specs.Output.{acceptedWrite}
 use Rattle.output.proofs.OutputLaws.{earlier-refused, too-small, accepted}
-use Rattle.site.proofs.Sizes.{Sized}
 use Rattle.poll.specs.Poll.{pollOf, refusalOf}
 use Rattle.site.specs.Record.{meteredLanes, mainlineLanes}
 use Rattle.poll.proofs.PollLaws.{length-poll, site-sound}
@@ -15,9 +14,6 @@ use Rattle.site.proofs.TimingLaws.{most-metered}
 use borrow.Author.Needs.{needs}
 use Rattle.poll.proofs.poll.Statement.{statement}
 use Rattle.poll.proofs.poll.Tie as tie
-
-sized : (s : tie.Start) → Sized (s .args .t1)
-sized s = record { timings = search needs; plan = search needs; dates = search needs; tables = search needs }
 
 not-refused : (c : tie.Else1) → refusalOf (c .before .before .before .args .t1) (c .before .before .before .args .state) ≡ 0
 not-refused c = sym (c .before .refusal .ensures) ∙ c .if1 .left
@@ -65,7 +61,7 @@ store-record-requires c κs =
     let s = c .before .before .before in
     let e = s .before .before .before in
     let b = e .before .before .before in
-    (most-metered (b .args .t1) (sized b) (site-sound (b .args .t1) (b .args .state) (not-refused e)), omega (arith, s .record-size .ensures))
+    (most-metered (b .args .t1) (site-sound (b .args .t1) (b .args .state) (not-refused e)), omega (arith, s .record-size .ensures))
 
 accepted-write-requires : tie.Need-accepted-write-requires
 accepted-write-requires c κs = search needs

@@ -4,7 +4,6 @@ use Rattle.state.specs.State.{stateSpoilt}
 use Rattle.tick.specs.Tick.{countedIn, decidedIn, movedIn, acceptedTick}
 use Rattle.tick.proofs.TickLaws.{Accepted, accepted, tick-keeps}
 use Rattle.site.specs.Record.{meteredLanes, mainlineLanes}
-use Rattle.site.proofs.Sizes.{Sized}
 use Rattle.wanted.specs.Decision.{decisionOf}
 use Rattle.wanted.proofs.ClockLaws.{tenth-good}
 use Rattle.period.proofs.RangeLaws.{periods-good, good-periods, periods-room}
@@ -13,10 +12,6 @@ use mathlib.Core.Path.{_≡_, ap, _∙_}
 use borrow.Author.Needs.{needs}
 use Rattle.tick.proofs.advance.Statement.{statement}
 use Rattle.tick.proofs.advance.Tie as tie
-
-sized : (s : tie.Start) → Sized (s .args .t1)
-sized s =
-    record { timings = search needs; plan = search needs; dates = search needs; tables = search (needs, s .good .0 .1 .1 .1 .1 .1 .1 .1 .1 .0) }
 
 passed : (s : tie.Start) → Accepted (s .args .t1) (s .args .state) (s .args .input)
 passed s = let a = s .args in accepted (a .t1) (a .state) (a .input) (s .pre)
@@ -101,7 +96,7 @@ returns c = let s = c .before .before .before .before .before .before .before .b
     let m = mainlineLanes (a .t1) in (
       is c,
       ap (λ (r : Ticked). stateSpoilt (r .state) n m) (is c)
-          ∙ good-state (acceptedTick (a .t1) (a .state) (a .input) .state) n m (tick-keeps (a .t1) (sized s) (a .state) (a .input) (passed s)),
+          ∙ good-state (acceptedTick (a .t1) (a .state) (a .input) .state) n m (tick-keeps (a .t1) (a .state) (a .input) (passed s)),
     )
 
 pub advance-spec : {M : Type 1} → statement M

@@ -2,16 +2,11 @@
 use Rattle.tick.specs.Tick.{cycleIn}
 use Rattle.tick.specs.Timings.{timingsOf}
 use Rattle.tick.proofs.TickLaws.{accepted, cycle-in}
-use Rattle.site.proofs.Sizes.{Sized}
 use mathlib.Core.Path.{_≡_, _∙_}
 use native.Mathlib.Omega.{arith}
 use borrow.Author.Needs.{needs}
 use Rattle.tick.proofs.cycle_of.Statement.{statement}
 use Rattle.tick.proofs.cycle_of.Tie as tie
-
-sized : (s : tie.Start) → Sized (s .args .t1)
-sized s =
-    record { timings = search needs; plan = search needs; dates = search needs; tables = search (needs, s .good .0 .1 .1 .1 .1 .1 .1 .1 .1 .0) }
 
 is : (c : tie.After-cycle-ticks) → let a = c .before .before .before .args in c .cycle-ticks .result ≡ cycleIn (a .t1) (a .state) (a .input)
 unfolding cycleIn timingsOf
@@ -30,7 +25,7 @@ cycle-ticks-requires c κs = search needs
 
 cast-result : tie.Need-cast-result
 cast-result c = let s = c .before .before .before in let a = s .args in
-    omega (arith, is c, cycle-in (a .t1) (sized s) (a .state) (a .input) (accepted (a .t1) (a .state) (a .input) (s .pre .0)))
+    omega (arith, is c, cycle-in (a .t1) (a .state) (a .input) (accepted (a .t1) (a .state) (a .input) (s .pre .0)))
 
 returns : tie.Need-returns
 returns c = is c

@@ -2,7 +2,6 @@
 use Rattle.tick.specs.Tick.{powerUpOf}
 use Rattle.tick.proofs.WaitingLaws.{waiting-bound}
 use Rattle.site.specs.Record.{meteredLanes, mainlineLanes}
-use Rattle.site.proofs.Sizes.{Sized}
 use Rattle.site.proofs.TimingLaws.{timings-good}
 use Rattle.state.specs.State.{freshState}
 use Rattle.state.proofs.StateLaws.{good-state, fresh-good}
@@ -11,10 +10,6 @@ use native.Mathlib.Omega.{arith}
 use borrow.Author.Needs.{needs}
 use Rattle.tick.proofs.power_up.Statement.{statement}
 use Rattle.tick.proofs.power_up.Tie as tie
-
-sized : (s : tie.Start) → Sized (s .args .t1)
-sized s =
-    record { timings = search needs; plan = search needs; dates = search needs; tables = search (needs, s .good .0 .1 .1 .1 .1 .1 .1 .1 .1 .0) }
 
 spoilt-requires : tie.Need-spoilt-requires
 spoilt-requires c κs = search needs
@@ -26,7 +21,7 @@ returns : tie.Need-returns
 unfolding powerUpOf
 returns c =
     let r = c .before .before in
-    (rw (← r .spoilt .ensures, c .before .if1 .taken, c .zero .ensures), ((λ z. absurd (omega arith)), waiting-bound _ (sized (r .before))))
+    (rw (← r .spoilt .ensures, c .before .if1 .taken, c .zero .ensures), ((λ z. absurd (omega arith)), waiting-bound _))
 
 element-copy-out-fresh : tie.Need-element-copy-out-fresh
 element-copy-out-fresh c = search needs
@@ -40,9 +35,9 @@ returns-2 c =
     let r = c .before .before .before in
     let x = r .before .args .t1 in
     let ok = sym (r .spoilt .ensures) ∙ c .before .before .if1 .left in
-    let good = fresh-good (meteredLanes x) (mainlineLanes x) (timings-good x (sized (r .before)) ok .lanes-least) in (
+    let good = fresh-good (meteredLanes x) (mainlineLanes x) (timings-good x ok .lanes-least) in (
       rw (ok, c .fresh .ensures),
-      ((λ _. rw (c .fresh .ensures) (good-state (freshState (meteredLanes x)) (meteredLanes x) (mainlineLanes x) good)), waiting-bound _ (sized (r .before))),
+      ((λ _. rw (c .fresh .ensures) (good-state (freshState (meteredLanes x)) (meteredLanes x) (mainlineLanes x) good)), waiting-bound _),
     )
 
 pub power-up-spec : {M : Type 1} → statement M

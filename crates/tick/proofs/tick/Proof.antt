@@ -2,16 +2,11 @@
 use Rattle.tick.specs.declared.Ticked.{Ticked}
 use Rattle.tick.specs.Tick.{refusedTick, tickOf}
 use Rattle.tick.proofs.WaitingLaws.{waiting-bound}
-use Rattle.site.proofs.Sizes.{Sized}
 use borrow.Author.Tests.{ne-eqb, eq-eqb}
 use mathlib.Core.Path.{ap, sym, _∙_}
 use borrow.Author.Needs.{needs}
 use Rattle.tick.proofs.tick.Statement.{statement}
 use Rattle.tick.proofs.tick.Tie as tie
-
-sized : (s : tie.Start) → Sized (s .args .site)
-sized s =
-    record { timings = search needs; plan = search needs; dates = search needs; tables = search (needs, s .good .0 .1 .1 .1 .1 .1 .1 .1 .1 .0) }
 
 refusal-of-requires : tie.Need-refusal-of-requires
 refusal-of-requires c κs = search needs
@@ -24,7 +19,7 @@ unfolding tickOf refusedTick
 returns c =
     let r = c .before .before in (
       rw (← r .refusal-of .ensures, ne-eqb _ _ (c .before .if1 .taken)) (c .refused .ensures),
-      ((λ z. absurd (c .before .if1 .taken (sym (ap (λ (t : Ticked). t .refusal) (c .refused .ensures)) ∙ z))), waiting-bound _ (sized (r .before))),
+      ((λ z. absurd (c .before .if1 .taken (sym (ap (λ (t : Ticked). t .refusal) (c .refused .ensures)) ∙ z))), waiting-bound _),
     )
 
 advance-requires : tie.Need-advance-requires
@@ -35,7 +30,7 @@ unfolding tickOf
 returns-2 c =
     let r = c .before .before in (
       rw (← r .refusal-of .ensures, eq-eqb _ _ (c .before .if1 .left)) (c .advance .ensures .0),
-      ((λ _. c .advance .ensures .1), waiting-bound _ (sized (r .before))),
+      ((λ _. c .advance .ensures .1), waiting-bound _),
     )
 
 pub tick-spec : {M : Type 1} → statement M
