@@ -37,10 +37,11 @@ releasedIn t cycle demand now s = cond (eqb now 7) (releasedOf t cycle demand s)
 unfoldable pub groupOf : Group → ℕ → Lanes → Group
 groupOf g now s = record { interval = now; age = cond (eqb now (g .interval)) (ageOf (g .age)) 0; lanes = s }
 
--- The lanes as the tick's lane intervals leave them, and the release.
+-- The lanes as the tick's lane intervals leave them.
 unfoldable pub lanesMoved : Times → Timings → Wish → Metered → Group → Lanes
 lanesMoved times t wish samples g = lanesIn t (samples .passage) (g .interval) (intervalOf times t wish g) (g .lanes)
 
+-- The group with its release.
 unfoldable pub movedWith : Group → ℕ → Lanes → ℕ → Moved
 movedWith g now s released = record { group = groupOf g now (releaseOf s released); released = released }
 

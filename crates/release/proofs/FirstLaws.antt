@@ -1,18 +1,15 @@
 -- `firstAfter` a lane at a time, for a loop that has come to lane k and has so many more to look at.
 use Prim.Native.Nat.{ℕ, zero, suc, _+_, _-_, _≤_, _<_}
 use mathlib.Core.Path.{_≡_}
-use mathlib.Core.Bool.{Bool, true, false, cond}
+use mathlib.Core.Bool.{Bool, true, false}
 use native.Mathlib.Omega.{arith}
 use lib.Dec.{ltb}
+use Rattle.lanes.proofs.LaneLaws.{by-test}
 use Rattle.release.specs.Release.{nextLane, firstAfter}
-
-either-from-1 : (b : Bool) (k : ℕ) → 1 ≤ cond b (k + 1) 1
-either-from-1 true k = omega arith
-either-from-1 false k = omega arith
 
 pub next-from-1 : (n k : ℕ) → 1 ≤ nextLane n k
 unfolding nextLane
-next-from-1 n k = either-from-1 (ltb k n) k
+next-from-1 n k = by-test (ltb k n) (λ e. rw e (omega arith)) (λ e. rw e (omega arith))
 
 pub first-found : (p : ℕ → Bool) (n k more : ℕ) → 0 < more → p (nextLane n k) ≡ true → nextLane n k ≡ firstAfter p n k more
 first-found p n k zero h e = absurd (omega arith)

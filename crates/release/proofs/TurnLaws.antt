@@ -7,14 +7,15 @@ use borrow.Author.Tests.{ltb-true, ltb-false, eqb-true, eqb-false}
 use lib.Dec.{ltb, eqb}
 use Rattle.lanes.proofs.LaneLaws.{by-test}
 use Rattle.release.specs.Release.{nextLane, firstAfter}
+use Rattle.release.proofs.FirstLaws.{next-from-1}
 
 -- How many turns from lane k to lane i, of n.
 unfoldable pub turns : ℕ → ℕ → ℕ → ℕ
 turns n k i = cond (ltb k i) (i - k) (i + n - k)
 
-pub next-in : (n k : ℕ) → 1 ≤ n → (1 ≤ nextLane n k) × (nextLane n k ≤ n)
+next-most : (n k : ℕ) → 1 ≤ n → nextLane n k ≤ n
 unfolding nextLane
-next-in n k h = by-test (ltb k n) (λ e. rw e (omega (arith, ltb-true k n e))) (λ e. rw e (omega arith))
+next-most n k h = by-test (ltb k n) (λ e. rw e (omega (arith, ltb-true k n e))) (λ e. rw e (omega arith))
 
 pub turns-in : (n k i : ℕ) → 1 ≤ k → k ≤ n → 1 ≤ i → i ≤ n → (1 ≤ turns n k i) × (turns n k i ≤ n)
 unfolding turns
@@ -50,7 +51,7 @@ turn-step n k i a b c d ne =
 pub first-in : (p : ℕ → Bool) (n k m : ℕ) → 1 ≤ n → firstAfter p n k m ≤ n
 first-in p n k zero h = omega arith
 first-in p n k (suc m) h =
-    by-test (p (nextLane n k)) (λ e. rw e (next-in n k h .1)) (λ e. rw e (first-in p n (nextLane n k) m h))
+    by-test (p (nextLane n k)) (λ e. rw e (next-most n k h)) (λ e. rw e (first-in p n (nextLane n k) m h))
 
 pub first-holds : (p : ℕ → Bool) (n k m : ℕ) → eqb (firstAfter p n k m) 0 ≡ false → p (firstAfter p n k m) ≡ true
 first-holds p n k zero h = absurd (true≢false h)
@@ -65,12 +66,13 @@ pub first-nearer : (p : ℕ → Bool) (n k i m : ℕ) → 1 ≤ k → k ≤ n �
 first-nearer p n k i zero a b c d r h = absurd (omega (arith, turns-in n k i a b c d .0))
 first-nearer p n k i (suc m) a b c d r h =
     let next = nextLane n k in
-    let w = next-in n k (omega arith) in
+    let least = next-from-1 n k in
+    let most = next-most n k (omega arith) in
     by-test (p next)
-    (λ e. rw e (record { some = w .0; nearer = λ ne. omega (arith, turn-step n k i a b c d ne) }))
+    (λ e. rw e (record { some = least; nearer = λ ne. omega (arith, turn-step n k i a b c d ne) }))
     (λ e. let ne : eqb (nextLane n k) i ≡ false = other next e in
     let q = turn-step n k i a b c d ne in
-    let v = first-nearer p n next i m (w .0) (w .1) c d r (omega arith) in
+    let v = first-nearer p n next i m least most c d r (omega arith) in
     rw e (record { some = v .some; nearer = λ x. omega (arith, v .nearer x, q) }))
   where
     other : (x : ℕ) → p x ≡ false → eqb x i ≡ false
