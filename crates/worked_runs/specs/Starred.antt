@@ -14,7 +14,7 @@ use Rattle.levels.specs.Measures.{totalsOf, measuresOf}
 use Rattle.levels.specs.Levels.{isMet}
 use Rattle.release.specs.Cycle.{cycleTicks}
 use Rattle.waiting.specs.Bound.{waitingBound}
-use Rattle.tick.specs.Timings.{timingsOf}
+use Rattle.site.specs.Named.{timingsOf}
 use Rattle.tick.specs.Waiting.{atPowerUp, courseAfter, acceptedTicks, beginsWithin}
 use Rattle.worked_runs.specs.SiteA.{siteWith, siteA, siteAWithOffset}
 use Rattle.worked_runs.specs.Run.{metering600, answerAt, releases, calls}

@@ -7,7 +7,7 @@ use lib.ListN.{length}
 use Rattle.output.specs.Output.{acceptedWrite}
 use Rattle.output.proofs.OutputLaws.{earlier-refused, too-small, accepted}
 use Rattle.poll.specs.Poll.{pollOf, refusalOf}
-use Rattle.site.specs.Record.{meteredLanes, mainlineLanes}
+use Rattle.site.specs.Named.{meteredLanes, mainlineLanes}
 use Rattle.poll.proofs.PollLaws.{length-poll, site-sound}
 use Rattle.output.proofs.SetsLaws.{over-front}
 use Rattle.site.proofs.TimingLaws.{most-metered}
