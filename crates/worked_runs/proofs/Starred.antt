@@ -70,4 +70,10 @@ starred = record {
   bound-of-one-lane = refl;
   in-time = refl;
   no-tick-to-spare = refl;
+  bound-of-two-lanes = refl;
+  two-in-time = refl;
+  two-no-tick-to-spare = refl;
+  bound-of-two-with-offset = refl;
+  two-with-offset-in-time = refl;
+  two-with-offset-no-tick-to-spare = refl;
 }
