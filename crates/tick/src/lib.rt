@@ -130,7 +130,7 @@ fn advance(site: Site, state: State, input: Input) -> Ticked
     let moved = group::tick(t, wish, cycle, lanes, group);
     let after = moved.group;
     Ticked {
-        refusal: 0,
+        refusal: 0, // no check refuses
         state: State {
             group: after,
             periods: period::after_release(counted, moved.released),
