@@ -3,10 +3,11 @@ use Prim.Native.Nat.{_-_, _≤_}
 use mathlib.Core.Path.{_≡_}
 use mathlib.Core.Bool.{false, not}
 use native.Mathlib.Omega.{arith}
-use borrow.Author.Tests.{not-false}
+use borrow.Author.Tests.{ltb-false, not-false}
 use lib.Dec.{ltb}
 use Rattle.loops.proofs.AnyLaws.{neither}
-use Rattle.ranges.specs.Ranges.{isWithin, rateRange}
+use Rattle.numbers.specs.Within.{isWithin}
+use Rattle.ranges.specs.Ranges.{rateRange}
 use Rattle.ranges.proofs.RangeLaws.{rate-ends}
 use Rattle.inputs.specs.declared.Command.{Command}
 use Rattle.inputs.specs.Commands.{commandBad}
@@ -15,5 +16,6 @@ pub command-rate : (c : Command) → commandBad c ≡ false → 3 ≤ c .kind �
 unfolding commandBad
 command-rate c e h =
     let within = isWithin (rateRange (c .kind - 1)) (c .rate) in
-    let p = neither (not within) _ (neither (ltb 4 (c .kind)) _ e .1) in
-    rate-ends (c .kind - 1) (c .rate) (omega arith) (not-false within (p .0))
+    let q = neither (ltb 4 (c .kind)) _ e in
+    let p = neither (not within) _ (q .1) in
+    rate-ends (c .kind - 1) (c .rate) (omega arith) (omega (arith, ltb-false 4 (c .kind) (q .0))) (not-false within (p .0))

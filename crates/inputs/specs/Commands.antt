@@ -3,7 +3,8 @@
 use Prim.Native.Nat.{_-_}
 use mathlib.Core.Bool.{Bool, not, _||_}
 use lib.Dec.{ltb}
-use Rattle.ranges.specs.Ranges.{isWithin, rateRange, tableRange}
+use Rattle.numbers.specs.Within.{isWithin}
+use Rattle.ranges.specs.Ranges.{rateRange, tableRange}
 use Rattle.inputs.specs.declared.Command.{Command}
 
 -- Kinds 1 to 4 are an entry's modes 0 to 3; in kind 0, as in a dark entry, the other fields are 0.

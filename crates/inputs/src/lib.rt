@@ -167,10 +167,10 @@ fn command_bad(c: Command) -> bool
         return true;
     }
     let mode = mode_of(c.kind);
-    if !ranges::within(ranges::rate_range(mode), c.rate) {
+    if !numbers::within(ranges::rate_range(mode), c.rate) {
         return true;
     }
-    !ranges::within(ranges::table_range(mode), c.table)
+    !numbers::within(ranges::table_range(mode), c.table)
 }
 
 // Whether one of the two commands is out of range.

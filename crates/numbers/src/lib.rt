@@ -1,9 +1,26 @@
-// Two-byte numbers, high byte first, as the site file and the poll record hold them.
+// Two-byte numbers, high byte first, as the site file and the poll record hold them, and their ranges.
 ghost use mathlib.Core.Path.{_≡_};
 ghost use Prim.Native.Nat.{_+_, _*_, _≤_};
 ghost use lib.ListN.{length, getD, take, drop};
 ghost use lib.Seq.{sets};
 ghost use Rattle.numbers.specs.Words.{words, bytes};
+ghost use Rattle.numbers.specs.Within.{isWithin};
+
+// From low to high, both included.
+pub struct Range {
+    pub low: u16,
+    pub high: u16,
+}
+
+// Whether a number is in a range.
+pub fn within(range: Range, x: u16) -> bool
+    ensures { λ r. ⌜ r ≡ isWithin range x ⌝ }
+{
+    if x < range.low {
+        return false;
+    }
+    x <= range.high
+}
 
 // The i-th number of s, or 0 where s has no such number.
 pub fn word(s: &[u8], i: usize) -> u16

@@ -6,15 +6,24 @@ use native.Mathlib.Omega.{arith}
 use lib.ListN.{getD}
 use lib.Seq.{getD-take}
 use Rattle.ranges.specs.declared.Section.the-variants.{Entries, Levels}
-use Rattle.ranges.specs.Ranges.{between, isWithin, rateRange, entryRange, levelRange}
+use Rattle.numbers.specs.Within.{between, isWithin}
+use Rattle.ranges.specs.Ranges.{rates, rateRange, entryRange, levelRange}
 use Rattle.ranges.specs.Sections.{rangeOf, mayBeUnused}
-use Rattle.ranges.proofs.RangeLaws.{ends, rate-ends}
+use Rattle.numbers.proofs.WithinLaws.{ends}
+use Rattle.ranges.proofs.RangeLaws.{rate-ends}
 use Rattle.site.specs.declared.Site.{Site}
 use Rattle.site.specs.Record.{spoiltSite}
 use Rattle.site.proofs.SpoiltLaws.{sound-site, number-within}
 
 module _ (x : Site) (ok : spoiltSite x ≡ false) where
-  pub entry-rate : (i : ℕ) → i < x .entries → isWithin (rateRange (getD (x .plan) (i * 5 + 2) 0)) (getD (x .plan) (i * 5 + 3) 0) ≡ true
+  mode-most : (i : ℕ) → i < x .entries → getD (x .plan) (i * 5 + 2) 0 ≤ 3
+  unfolding rangeOf mayBeUnused entryRange
+  mode-most i h =
+      let column : (i * 5 + 2) % 5 ≡ 2 = omega arith in
+      ends (between 0 3) (getD (x .plan) (i * 5 + 2) 0)
+      (rw column at (number-within Entries (x .entries) (x .plan) (sound-site x ok .plan) (i * 5 + 2) (omega arith) refl)) .1
+
+  entry-rate : (i : ℕ) → i < x .entries → isWithin (rateRange (getD (x .plan) (i * 5 + 2) 0)) (getD (x .plan) (i * 5 + 3) 0) ≡ true
   unfolding rangeOf mayBeUnused entryRange
   entry-rate i h =
       let column : (i * 5 + 3) % 5 ≡ 3 = omega arith in
@@ -25,11 +34,11 @@ module _ (x : Site) (ok : spoiltSite x ≡ false) where
   -- In modes 2 and 3 that is a rate to meter at.
   pub entry-rate-ends : (i : ℕ) → i < x .entries → 2 ≤ getD (x .plan) (i * 5 + 2) 0
       → (150 ≤ getD (x .plan) (i * 5 + 3) 0) × (getD (x .plan) (i * 5 + 3) 0 ≤ 1800)
-  entry-rate-ends i h m = rate-ends (getD (x .plan) (i * 5 + 2) 0) (getD (x .plan) (i * 5 + 3) 0) m (entry-rate i h)
+  entry-rate-ends i h m = rate-ends (getD (x .plan) (i * 5 + 2) 0) (getD (x .plan) (i * 5 + 3) 0) m (mode-most i h) (entry-rate i h)
 
   pub level-rate : (i : ℕ) → i < x .levels → (150 ≤ getD (x .tables) (i * 5 + 4) 0) × (getD (x .tables) (i * 5 + 4) 0 ≤ 1800)
   unfolding rangeOf mayBeUnused levelRange isWithin
   level-rate i h =
       let column : (i * 5 + 4) % 5 ≡ 4 = omega arith in
-      ends (between 150 1800) (getD (x .tables) (i * 5 + 4) 0)
+      ends rates (getD (x .tables) (i * 5 + 4) 0)
       (rw column at (number-within Levels (x .levels) (x .tables) (sound-site x ok .tables) (i * 5 + 4) (omega arith) (rw column)))

@@ -59,7 +59,7 @@ pub fn spoilt(site: Site) -> bool
     ensures { λ r. ⌜ r ≡ spoiltSite site ⌝ }
 {
     let timings = site.timings;
-    if spoilt_section(Section::Timings, 15, &timings) {
+    if spoilt_section(Section::Timings, ranges::TIMINGS, &timings) {
         return true;
     }
     let plan = site.plan;
