@@ -51,7 +51,8 @@ fn spoilt_section(section: Section, count: u16, v: &[u16]) -> bool
     if ranges::first_bad(section, &v[..k]) < k {
         return true;
     }
-    !ranges::all_zero(&v[k..])
+    let zeros_beyond = ranges::all_zero(&v[k..]);
+    !zeros_beyond
 }
 
 // Whether no file could give this record.
