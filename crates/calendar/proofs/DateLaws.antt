@@ -3,7 +3,7 @@ use Prim.Native.Nat.{ℕ, _+_, _-_, _≤_, _<_}
 use mathlib.Core.Path.{_≡_, refl}
 use mathlib.Core.Bool.{Bool, true, false, cond, _&&_}
 use native.Mathlib.Omega.{arith}
-use borrow.Author.Tests.{leb-true, leb-false}
+use borrow.Author.Tests.{leb-true, leb-false, ltb-true}
 use lib.Dec.{leb, ltb}
 use lib.ListN.{getD}
 use Rattle.numbers.specs.Within.{between, isWithin}
@@ -50,6 +50,18 @@ module _ (y m : ℕ) (h : m ≤ 12) where
   pub length-most : monthLength y m ≤ 31
   unfolding monthLength
   length-most = omega (arith, before-near)
+
+-- Each month has a day.
+all-days : (leap : Bool) (i : ℕ) → i < 12 → ltb (before leap (i + 1)) (before leap (i + 1 + 1)) ≡ true
+all-days true = below (λ i. ltb (before true (i + 1)) (before true (i + 1 + 1))) 12 refl
+all-days false = below (λ i. ltb (before false (i + 1)) (before false (i + 1 + 1))) 12 refl
+
+pub length-least : (y m : ℕ) → 1 ≤ m → m ≤ 12 → 1 ≤ monthLength y m
+unfolding monthLength daysBefore
+length-least y m l h =
+    let e : m - 1 + 1 ≡ m = omega arith in
+    let rises : daysBefore y m < daysBefore y (m + 1) = ltb-true _ _ (rw e at (all-days (isLeap y) (m - 1) (omega arith))) in
+    omega (arith, rises)
 
 pub record Bounds (date : Date) : Type 0 where
   pub year-low : 2000 ≤ date .year
