@@ -2,21 +2,19 @@
 mod line;
 
 ghost use mathlib.Core.Path.{_≡_};
-ghost use Prim.Native.Nat.{_≤_};
 ghost use Rattle.text.specs.Put.{Put};
 ghost use Rattle.output.specs.Output.{answerOf, bufferOf};
 ghost use Rattle.listing.specs.Timetable.{startingAt, minutesFrom, daysFrom, timetableOf, printedOf, textOf};
-ghost use Rattle.listing.specs.NextStart.{NextStart};
+ghost use Rattle.listing.specs.NextStart.{earlierOf, nextStartOf};
 use output::Written;
 use site::ReadSite;
 use site::Site;
 
 const MINUTES_OF_A_DAY: u16 = 1440;
 
-// The earlier of two starts, where the first is at or after a minute of the day.
+// A start, if it is at or after a minute of the day and no later than the best so far; else that one.
 fn earlier(start: u16, from: u16, best: u16) -> u16
-    requires { ⌜ from ≤ best ⌝ }
-    ensures { λ r. ⌜ (from ≤ r) × (r ≤ best) × (from ≤ start → r ≤ start) ⌝ }
+    ensures { λ r. ⌜ r ≡ earlierOf start from best ⌝ }
 {
     if start < from {
         return best;
@@ -27,10 +25,9 @@ fn earlier(start: u16, from: u16, best: u16) -> u16
     start
 }
 
-// The earliest start at or after a minute of the day.
+// The earliest start at or after a minute of the day; 1440 where there is none.
 fn next_start(rows: &[u16], count: u16, from: u16) -> u16
-    requires { ⌜ from ≤ 1440 ⌝ }
-    ensures { λ r. ⌜ NextStart (now (rows .entry)) count from r ⌝ }
+    ensures { λ r. ⌜ r ≡ nextStartOf (now (rows .entry)) from count ⌝ }
 {
     let mut best = MINUTES_OF_A_DAY;
     let mut i: u16 = 0;
