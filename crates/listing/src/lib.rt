@@ -2,6 +2,9 @@
 mod line;
 
 ghost use mathlib.Core.Path.{_≡_};
+ghost use Prim.Native.Nat.{_≤_};
+ghost use mathlib.Core.List.{_++_};
+ghost use lib.ListN.{length, drop};
 ghost use Rattle.text.specs.Put.{Put};
 ghost use Rattle.output.specs.Output.{answerOf, bufferOf};
 ghost use Rattle.listing.specs.Timetable.{startingAt, minutesFrom, daysFrom, timetableOf, printedOf, textOf};
@@ -99,11 +102,16 @@ fn put_printed(out: &mut [u8], at: usize, read: ReadSite) -> usize
     put_timetable(out, at, site)
 }
 
+// The longest text: a heading of 32 bytes, and on each of 8 day types 16 lines, of 25 bytes in places
+// 1 to 9 and of 26 in the others.
+pub const LONGEST_TEXT: usize = 3288;
+
 // Writes what is printed of a site file's bytes to the front of out: its timetable, or the line
-// that says why it is refused and where.
+// that says why it is refused and where. A buffer with room for the longest text is never refused.
 pub fn print(file: &[u8], out: &mut [u8]) -> Written
     ensures answer { λ r. ⌜ r ≡ answerOf 0 (textOf (now (file .entry))) (now (out .entry)) ⌝ }
     ensures buffer { λ _. ⌜ now (out .exit) ≡ bufferOf 0 (textOf (now (file .entry))) (now (out .entry)) ⌝ }
+    ensures room { λ r. ⌜ (3288 ≤ length (now (out .entry)) → r .refusal ≡ 0) ⌝ }
 {
     let read = site_reader::read(file);
     let mut none = [0u8; 1];
@@ -113,4 +121,13 @@ pub fn print(file: &[u8], out: &mut [u8]) -> Written
     }
     let count = put_printed(out, 0, read);
     output::accepted_write(count)
+}
+
+// The same in a buffer with room for the longest text: how many bytes it has.
+pub fn print_whole(file: &[u8], out: &mut [u8; LONGEST_TEXT]) -> usize
+    ensures count { λ r. ⌜ r ≡ length (textOf (now (file .entry))) ⌝ }
+    ensures buffer { λ _. ⌜ now (out .exit) ≡ textOf (now (file .entry)) ++ drop (length (textOf (now (file .entry)))) (now (out .entry)) ⌝ }
+{
+    let written = print(file, out);
+    written.count
 }
