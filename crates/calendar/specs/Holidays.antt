@@ -23,12 +23,13 @@ rowOf rows i = record {
 unfoldable pub isFixed : Day → Row → Bool
 isFixed day row = eqb (day .month) (row .month) && eqb (day .day) (row .nth)
 
--- "The week 1-5 and weekday 0-6, Sunday 0. Week 5 means the final such weekday."
+-- "The week 1-5." "Week 5 means the final such weekday."
+unfoldable pub inWeek : Day → Row → Bool
+inWeek day row = eqb (day .month) (row .month) && cond (eqb (row .nth) 5) (day .last) (eqb (day .week) (row .nth))
+
+-- "The week 1-5 and weekday 0-6, Sunday 0."
 unfoldable pub isFloating : Day → Row → Bool
-isFloating day row =
-    eqb (day .month) (row .month)
-    && eqb (day .weekday) (row .weekday)
-    && cond (eqb (row .nth) 5) (day .last) (eqb (day .week) (row .nth))
+isFloating day row = eqb (day .weekday) (row .weekday) && inWeek day row
 
 -- "Kind 1 fixed, 2 floating, 3 the day after a floating one." "A date is of kind 3 if the day before is the floating date."
 unfoldable pub isNamed : Day → Day → Row → Bool

@@ -1,6 +1,7 @@
 // Runs a whole day of ticks, one after the other from power-up, at the site whose file is standard
 // input. Prints how many were accepted, the lanes released, the periods polled, and a checksum of
-// all that the driver and the control centre see. With an argument, the samples alone are made.
+// all that the driver and the control centre see; of a refused file, why. With an argument, the
+// samples alone are made.
 mod random;
 
 use calendar::Clock;
@@ -19,9 +20,6 @@ use tick::Ticked;
 const TICKS: u32 = 864000;
 
 const SEED: u32 = 1;
-
-// The longest site file.
-const LONGEST: usize = 566;
 
 // A day so far.
 struct Day {
@@ -174,6 +172,14 @@ fn run(site: Site) {
     io::write_all(STDOUT_FILENO, b"\n");
 }
 
+fn print_refusal(refusal: u8, place: usize) {
+    let mut out = io::buffer();
+    let n = phrases::put_refusal(&mut out, 0, refusal, place);
+    if n <= out.len() {
+        io::write_all(STDOUT_FILENO, &out[..n]);
+    }
+}
+
 fn with_six(sum: u32, v: [u16; 6]) -> u32 {
     let a = with_four(sum, [v[0], v[1], v[2], v[3]]);
     summed(a, four(0, 0, v[4], v[5]))
@@ -210,9 +216,13 @@ fn main() {
         run_samples();
         return;
     }
-    let mut file = [0u8; LONGEST];
+    let mut file = [0u8; site_reader::FRONT];
     let n = io::read_full(STDIN_FILENO, &mut file);
     let read = site_reader::read(&file[..n]);
+    if read.refusal != 0 {
+        print_refusal(read.refusal, read.place);
+        return;
+    }
     let site = read.site;
     run(site);
 }

@@ -88,7 +88,8 @@ fn spoilt_section(section: Section, count: u16, v: &[u16]) -> bool
     if ranges::first_bad(section, &v[..k]) < k {
         return true;
     }
-    !ranges::all_zero(&v[k..])
+    let zeros_beyond = ranges::all_zero(&v[k..]);
+    !zeros_beyond
 }
 
 // Whether no file could give this record.
@@ -96,7 +97,7 @@ pub fn spoilt(site: Site) -> bool
     ensures { λ r. ⌜ r ≡ spoiltSite site ⌝ }
 {
     let timings = site.timings;
-    if spoilt_section(Section::Timings, 15, &timings) {
+    if spoilt_section(Section::Timings, ranges::TIMINGS, &timings) {
         return true;
     }
     let plan = site.plan;

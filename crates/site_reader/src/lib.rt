@@ -1,8 +1,9 @@
 // Reading a site file.
 ghost use mathlib.Core.Path.{_≡_};
 ghost use mathlib.Core.Bool.{false};
-ghost use Prim.Native.Nat.{_≤_};
-ghost use lib.ListN.{length};
+ghost use mathlib.Core.List.{List};
+ghost use Prim.Native.Nat.{ℕ, _≤_};
+ghost use lib.ListN.{length, take};
 ghost use Rattle.numbers.specs.Words.{words};
 ghost use Rattle.ranges.specs.Sections.{mostOf};
 ghost use Rattle.site.specs.Record.{spoiltSite};
@@ -21,6 +22,16 @@ pub const WRONG_COUNT: u8 = 2;
 
 // Bytes follow the last section.
 pub const LONG_FILE: u8 = 7;
+
+// One more than the longest site file has.
+pub const FRONT: usize = 567;
+
+// How many bytes of a file's front are enough: what reading them gives is what reading the file does.
+pub fn front() -> usize
+    ensures { λ r. ⌜ ((s : List ℕ) → readOf (take r s) ≡ readOf s) ⌝ }
+{
+    FRONT
+}
 
 fn not_found(refusal: u8, place: usize) -> Found
     ensures { λ r. ⌜ r ≡ refusedAt refusal place ⌝ }
