@@ -9,12 +9,8 @@ use Rattle.ranges.specs.declared.Section.the-variants.{Timings}
 use Rattle.numbers.specs.Within.{isWithin}
 use Rattle.ranges.specs.Ranges.{timingRange}
 use Rattle.ranges.specs.Sections.{rangeOf, mayBeUnused}
-<<<<<<< HEAD
-use Rattle.ranges.proofs.RangeLaws.{ends}
-use Rattle.timings.specs.declared.Timings.{Timings as NamedTimings}
-=======
 use Rattle.numbers.proofs.WithinLaws.{ends}
->>>>>>> 95112684ae1fcb49410f3fc6eac7cb6a9be95f09
+use Rattle.timings.specs.declared.Timings.{Timings as NamedTimings}
 use Rattle.site.specs.declared.Site.{Site}
 use Rattle.site.specs.Record.{spoiltSite}
 use Rattle.site.specs.Named.{timingsOf}

@@ -2,7 +2,7 @@
 use mathlib.Core.Path.{refl}
 use Rattle.worked_runs.specs.Run.{stateAfter, answerAt, releasesFrom, releases}
 use Rattle.tick.specs.Checks.{inputRefusal, tickRefusal}
-use Rattle.tick.specs.Timings.{timingsOf, timesOf}
+use Rattle.site.specs.Named.{timingsOf}
 use Rattle.tick.specs.Tick.{powerUpOf, countedIn, decidedIn, cycleIn, movedIn, acceptedTick, refusedTick, tickOf}
 use Rattle.waiting.specs.Bound.{turnTicks, waitingBound}
 use Rattle.tick.specs.Waiting.{atPowerUp, answerTo, isAccepted, onward, greenBegins}
