@@ -20,11 +20,11 @@ pub enum Section {
 }
 
 // How many numbers make a row. The timings' count counts numbers.
-const ENTRY_WIDTH: usize = 5;
+pub const ENTRY_WIDTH: usize = 5;
 
-const HOLIDAY_WIDTH: usize = 4;
+pub const HOLIDAY_WIDTH: usize = 4;
 
-const LEVEL_WIDTH: usize = 5;
+pub const LEVEL_WIDTH: usize = 5;
 
 // The counts: of timings all, of the others the greatest.
 pub const TIMINGS: u16 = 15;

@@ -64,6 +64,3 @@ module _ (x : Site) (ok : spoiltSite x ≡ false) where
 
   pub most-metered : getD (x .timings) 0 0 ≤ 4
   most-metered = timings-good .lanes-most
-
-  pub most-mainline : getD (x .timings) 14 0 ≤ 6
-  most-mainline = timings-good .mainline-most
