@@ -1,16 +1,15 @@
 -- The dates in their order: from each to the next the day number rises by one, and yesterday is the date before.
-use Prim.Native.Nat.{ℕ, _+_, _-_, _*_, _/_, _%_, _≤_, _<_}
-use mathlib.Core.Path.{_≡_, refl, ap, sym, _∙_}
+use Prim.Native.Nat.{ℕ, _+_, _-_, _/_, _%_, _≤_}
+use mathlib.Core.Path.{_≡_, refl, ap, _∙_}
 use mathlib.Core.Bool.{Bool, true, false, cond}
 use native.Mathlib.Omega.{arith}
-use borrow.Author.Tests.{ltb-true, ltb-false, le-leb, lt-leb, eqb-true, eqb-false}
-use lib.Dec.{ltb, leb}
-use Rattle.numbers.specs.Within.{between, isWithin}
+use borrow.Author.Tests.{ltb-true, ltb-false, lt-leb, eqb-true, eqb-false}
+use lib.Dec.{ltb}
+use Rattle.numbers.specs.Within.{between}
 use Rattle.numbers.proofs.WithinLaws.{inside}
 use Rattle.calendar.specs.declared.day.Date.{Date}
-use Rattle.calendar.specs.declared.day.Day.{Day}
 use Rattle.calendar.specs.Dates.{isLeap, daysBefore, monthLength, isDate, dayNumber, weekdayOf}
-use Rattle.calendar.specs.Days.{inMonth, todayOf, monthBefore, yesterdayOf}
+use Rattle.calendar.specs.Days.{todayOf, monthBefore, yesterdayOf}
 use Rattle.calendar.proofs.DateLaws.{Bounds, bounds, before-rises, length-least}
 
 abbrev dateOf : ℕ → ℕ → ℕ → Date

@@ -4,6 +4,8 @@ use mathlib.Core.Bool.{Bool, false, cond, _&&_, _||_}
 use mathlib.Core.List.{List}
 use lib.Dec.{eqb}
 use lib.ListN.{getD}
+use Rattle.ranges.specs.declared.Section.the-variants.{Holidays}
+use Rattle.ranges.specs.Sections.{widthOf}
 use Rattle.calendar.specs.declared.day.Date.{Date}
 use Rattle.calendar.specs.declared.day.Day.{Day}
 use Rattle.calendar.specs.declared.Row.{Row}
@@ -12,12 +14,9 @@ use Rattle.calendar.specs.Days.{todayOf, yesterdayOf}
 
 -- Kind, month, day or week, weekday: holiday i of a site's rows, the first being 0.
 abbrev pub rowOf : List ℕ → ℕ → Row
-rowOf rows i = record {
-  kind = getD rows (i * 4) 0;
-  month = getD rows (i * 4 + 1) 0;
-  nth = getD rows (i * 4 + 2) 0;
-  weekday = getD rows (i * 4 + 3) 0;
-}
+rowOf rows i =
+    let at : ℕ = i * widthOf Holidays in
+    record { kind = getD rows at 0; month = getD rows (at + 1) 0; nth = getD rows (at + 2) 0; weekday = getD rows (at + 3) 0 }
 
 -- "The day of that month."
 unfoldable pub isFixed : Day → Row → Bool

@@ -41,7 +41,7 @@ struct Row {
 fn row_at(rows: &[u16], i: u16) -> Row
     ensures { λ r. ⌜ r ≡ rowOf (now (rows .entry)) i ⌝ }
 {
-    let at = (i as usize) * 4;
+    let at = (i as usize) * ranges::HOLIDAY_WIDTH;
     Row {
         kind: numbers::number_at(rows, at),
         month: numbers::number_at(rows, at + 1),

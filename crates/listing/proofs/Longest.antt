@@ -1,9 +1,9 @@
--- The longest text: a heading, and on each of eight day types at most one line of each entry. A line has 26 bytes at the most, and 25 in
--- places 1 to 9.
+-- No text is longer than the longest: on a day type an entry has one line at the most, and that has 26 bytes at the most, in places 1 to 9
+-- 25.
 use Prim.Native.Nat.{ℕ, zero, suc, _+_, _-_, _*_, _/_, _^_, _≤_, _<_}
 use mathlib.Core.Path.{_≡_, refl, sym}
 use mathlib.Core.Bool.{Bool, true, false, cond, true≢false}
-use mathlib.Core.List.{List, [], _∷_, _++_}
+use mathlib.Core.List.{List, [], _∷_}
 use native.Mathlib.Omega.{arith}
 use borrow.Author.Tests.{ltb-true, ltb-false, eqb-true, eqb-false, leb-true}
 use lib.Dec.{ltb, leb, eqb}
@@ -16,7 +16,7 @@ use Rattle.site.specs.declared.Site.{Site}
 use Rattle.site.specs.declared.ReadSite.{ReadSite}
 use Rattle.site.specs.Record.{spoiltSite}
 use Rattle.site.proofs.RowLaws.{entries-most, entry-rate-most, entry-table-most}
-use Rattle.listing.specs.Timetable.{modeNames, modeName, lineOf, lineIf, startingAt, minutesFrom, daysFrom, timetableOf, printedOf}
+use Rattle.listing.specs.Timetable.{modeNames, modeName, lineOf, lineIf, startingAt, minutesFrom, daysFrom, timetableOf, printedOf, longestText}
 
 -- A number below 10, 100, .. has one digit, two, ..
 abbrev tens : ℕ → ℕ
@@ -161,17 +161,17 @@ module _ (x : Site) (ok : spoiltSite x ≡ false) where
       let m = minutes-most (x .plan) (x .entries) day (λ j h. place-case day j _ refl h) 0 1440 in
       rw length-append (omega (arith, most-all (x .entries) (entries-most x ok), days-most (day + 1) n))
 
-  timetable-most : length (timetableOf x) ≤ 3288
+  timetable-most : length (timetableOf x) ≤ longestText
   unfolding timetableOf
   timetable-most = rw length-append (omega (arith, days-most 0 8))
 
 -- What is printed of what reading gave.
 printed-case : (r : ReadSite) (b : Bool) → eqb (r .refusal) 0 ≡ b → r .refusal < 1000 → r .place < tens 19
     → (r .refusal ≡ 0 → spoiltSite (r .site) ≡ false)
-    → length (printedOf r) ≤ 3288
+    → length (printedOf r) ≤ longestText
 unfolding printedOf
 printed-case r true e n p ok = rw e (timetable-most (r .site) (ok (eqb-true (r .refusal) 0 e)))
 printed-case r false e n p ok = rw e (omega (arith, refusal-most (r .refusal) (r .place) n p))
 
-pub printed-most : (r : ReadSite) → r .refusal < 2 ^ 8 → r .place < 2 ^ 64 → (r .refusal ≡ 0 → spoiltSite (r .site) ≡ false) → length (printedOf r) ≤ 3288
+pub printed-most : (r : ReadSite) → r .refusal < 2 ^ 8 → r .place < 2 ^ 64 → (r .refusal ≡ 0 → spoiltSite (r .site) ≡ false) → length (printedOf r) ≤ longestText
 printed-most r n p ok = printed-case r _ refl (omega arith) (omega arith) ok

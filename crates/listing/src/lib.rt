@@ -7,7 +7,8 @@ ghost use mathlib.Core.List.{_++_};
 ghost use lib.ListN.{length, drop};
 ghost use Rattle.text.specs.Put.{Put};
 ghost use Rattle.output.specs.Output.{answerOf, bufferOf};
-ghost use Rattle.listing.specs.Timetable.{startingAt, minutesFrom, daysFrom, timetableOf, printedOf, textOf};
+ghost use Rattle.plan.specs.Entry.{dayTypes};
+ghost use Rattle.listing.specs.Timetable.{dayMinutes, startingAt, minutesFrom, daysFrom, timetableOf, printedOf, textOf, longestText};
 ghost use Rattle.listing.specs.NextStart.{earlierOf, nextStartOf};
 use output::Written;
 use site::ReadSite;
@@ -59,7 +60,7 @@ fn put_starting(out: &mut [u8], at: usize, rows: &[u16], count: u16, day: u16, m
 
 // The lines of one day, by start.
 fn put_day(out: &mut [u8], at: usize, rows: &[u16], count: u16, day: u16) -> usize
-    ensures { λ r. ⌜ Put (now (out .entry)) at (minutesFrom (now (rows .entry)) count day 0 1440) r (now (out .exit)) ⌝ }
+    ensures { λ r. ⌜ Put (now (out .entry)) at (minutesFrom (now (rows .entry)) count day 0 dayMinutes) r (now (out .exit)) ⌝ }
 {
     let mut p = at;
     let mut start = next_start(rows, count, 0);
@@ -72,11 +73,11 @@ fn put_day(out: &mut [u8], at: usize, rows: &[u16], count: u16, day: u16) -> usi
 
 // The lines of all day types, in bit order.
 fn put_days(out: &mut [u8], at: usize, rows: &[u16], count: u16) -> usize
-    ensures { λ r. ⌜ Put (now (out .entry)) at (daysFrom (now (rows .entry)) count 0 8) r (now (out .exit)) ⌝ }
+    ensures { λ r. ⌜ Put (now (out .entry)) at (daysFrom (now (rows .entry)) count 0 dayTypes) r (now (out .exit)) ⌝ }
 {
     let mut p = at;
     let mut day: u16 = 0;
-    while day < 8 {
+    while day < plan::DAY_TYPES {
         p = put_day(out, p, rows, count, day);
         day += 1;
     }
@@ -102,8 +103,8 @@ fn put_printed(out: &mut [u8], at: usize, read: ReadSite) -> usize
     put_timetable(out, at, site)
 }
 
-// The longest text: a heading of 32 bytes, and on each of 8 day types 16 lines, of 25 bytes in places
-// 1 to 9 and of 26 in the others.
+// The longest text: a heading of 32 bytes, and on each of 8 day types 9 lines of 25 bytes, in places 1
+// to 9, and 7 of 26.
 pub const LONGEST_TEXT: usize = 3288;
 
 // Writes what is printed of a site file's bytes to the front of out: its timetable, or the line
@@ -111,7 +112,7 @@ pub const LONGEST_TEXT: usize = 3288;
 pub fn print(file: &[u8], out: &mut [u8]) -> Written
     ensures answer { λ r. ⌜ r ≡ answerOf 0 (textOf (now (file .entry))) (now (out .entry)) ⌝ }
     ensures buffer { λ _. ⌜ now (out .exit) ≡ bufferOf 0 (textOf (now (file .entry))) (now (out .entry)) ⌝ }
-    ensures room { λ r. ⌜ (3288 ≤ length (now (out .entry)) → r .refusal ≡ 0) ⌝ }
+    ensures room { λ r. ⌜ (longestText ≤ length (now (out .entry)) → r .refusal ≡ 0) ⌝ }
 {
     let read = site_reader::read(file);
     let mut none = [0u8; 1];

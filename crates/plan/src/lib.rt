@@ -17,11 +17,14 @@ pub struct Entry {
     pub table: u16,
 }
 
+// Sunday to Saturday, and Holiday.
+pub const DAY_TYPES: u16 = 8;
+
 // Entry i of a plan's rows, the first being 0; all 0 where there is none.
 pub fn entry_at(rows: &[u16], i: u16) -> Entry
     ensures { λ r. ⌜ r ≡ entryOf (now (rows .entry)) i ⌝ }
 {
-    let at = (i as usize) * 5;
+    let at = (i as usize) * ranges::ENTRY_WIDTH;
     Entry {
         days: numbers::number_at(rows, at),
         start: numbers::number_at(rows, at + 1),
@@ -35,7 +38,7 @@ pub fn entry_at(rows: &[u16], i: u16) -> Entry
 pub fn on_day(days: u16, day: u16) -> bool
     ensures { λ r. ⌜ r ≡ onDay days day ⌝ }
 {
-    if 8 <= day {
+    if DAY_TYPES <= day {
         return false;
     }
     (days >> day) & 1 == 1

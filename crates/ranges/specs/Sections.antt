@@ -50,14 +50,14 @@ badNumberOf Levels = 6
 abbrev pub columnOf : Section → ℕ → ℕ
 columnOf k i = i % widthOf k
 
-abbrev pub rowOf : Section → ℕ → ℕ
-rowOf k i = i - columnOf k i
+abbrev pub rowStart : Section → ℕ → ℕ
+rowStart k i = i - columnOf k i
 
 -- The range of number i of a section whose numbers are v.
 unfoldable pub rangeOf : Section → List ℕ → ℕ → Range
 rangeOf Timings v i = timingRange (getD v 3 0) i
-rangeOf Entries v i = entryRange (getD v (rowOf Entries i + 2) 0) (columnOf Entries i)
-rangeOf Holidays v i = holidayRange (getD v (rowOf Holidays i) 0) (getD v (rowOf Holidays i + 1) 0) (columnOf Holidays i)
+rangeOf Entries v i = entryRange (getD v (rowStart Entries i + 2) 0) (columnOf Entries i)
+rangeOf Holidays v i = holidayRange (getD v (rowStart Holidays i) 0) (getD v (rowStart Holidays i + 1) 0) (columnOf Holidays i)
 rangeOf Levels v i = levelRange (columnOf Levels i)
 
 -- "In flow, occupancy and speed alone": columns 1 to 3 of a level.

@@ -20,11 +20,11 @@ pub enum Section {
 }
 
 // How many numbers make a row. The timings' count counts numbers.
-const ENTRY_WIDTH: usize = 5;
+pub const ENTRY_WIDTH: usize = 5;
 
-const HOLIDAY_WIDTH: usize = 4;
+pub const HOLIDAY_WIDTH: usize = 4;
 
-const LEVEL_WIDTH: usize = 5;
+pub const LEVEL_WIDTH: usize = 5;
 
 // The counts: of timings all, of the others the greatest.
 pub const TIMINGS: u16 = 15;
@@ -34,6 +34,15 @@ const MOST_ENTRIES: u16 = 16;
 const MOST_HOLIDAYS: u16 = 16;
 
 const MOST_LEVELS: u16 = 24;
+
+// The most numbers that a section can have.
+pub const MOST_TIMING_NUMBERS: usize = TIMINGS as usize;
+
+pub const MOST_ENTRY_NUMBERS: usize = MOST_ENTRIES as usize * ENTRY_WIDTH;
+
+pub const MOST_HOLIDAY_NUMBERS: usize = MOST_HOLIDAYS as usize * HOLIDAY_WIDTH;
+
+pub const MOST_LEVEL_NUMBERS: usize = MOST_LEVELS as usize * LEVEL_WIDTH;
 
 // A number out of range.
 const BAD_TIMING: u8 = 3;

@@ -1,5 +1,5 @@
 -- The text is counted, then put where it fits.
-use Rattle.listing.specs.Timetable.{printedOf, textOf}
+use Rattle.listing.specs.Timetable.{printedOf, textOf, longestText}
 use Rattle.listing.proofs.Longest.{printed-most}
 use Rattle.text.proofs.PutLaws.{put-front}
 use Rattle.text.specs.Put.{farthest}
@@ -19,7 +19,7 @@ use Rattle.listing.proofs.print.Tie as tie
 is-text : (c : tie.After-read) → printedOf (c .read .result) ≡ textOf (now (c .before .before .before .args .file))
 is-text c = ap printedOf (c .read .ensures .0)
 
-short : (c : tie.After-read) → length (printedOf (c .read .result)) ≤ 3288
+short : (c : tie.After-read) → length (printedOf (c .read .result)) ≤ longestText
 short c = printed-most (c .read .result) (omega arith) (omega arith) (λ z. c .read .ensures .1 z .0)
 
 read-requires : tie.Need-read-requires

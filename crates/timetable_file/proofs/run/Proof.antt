@@ -1,8 +1,8 @@
 -- What was read and what is printed each lie within their buffer.
 use lib.Seq.{length-take-le}
-use lib.ListN.{length, drop, length-append}
+use lib.ListN.{length, length-append}
 use Prim.Native.Nat.{_≤_}
-use mathlib.Core.Path.{_≡_, ap, sym}
+use mathlib.Core.Path.{ap, sym}
 use native.Mathlib.Omega.{arith}
 use borrow.Author.Needs.{needs}
 use Rattle.timetable_file.proofs.run.Statement.{statement}
