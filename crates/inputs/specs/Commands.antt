@@ -7,6 +7,7 @@ use Rattle.numbers.specs.Within.{isWithin}
 use Rattle.ranges.specs.Ranges.{rateRange, tableRange}
 use Rattle.inputs.specs.declared.Command.{Command}
 
+-- "Other fields 0."
 unfoldable pub carriesNothing : Command → Bool
 carriesNothing c = eqb (c .rate) 0 && eqb (c .table) 0
 

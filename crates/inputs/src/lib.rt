@@ -152,6 +152,7 @@ pub fn samples_bad(lanes: Metered, main: Mainline, n: u16, m: u16) -> bool
     any_lane_bad(main, m)
 }
 
+// Whether a command has neither rate nor table.
 fn carries_nothing(c: Command) -> bool
     ensures { λ r. ⌜ r ≡ carriesNothing c ⌝ }
 {

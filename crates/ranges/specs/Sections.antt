@@ -46,7 +46,7 @@ badNumberOf Entries = 4
 badNumberOf Holidays = 5
 badNumberOf Levels = 6
 
--- Number i is in this column of its row, and the row begins at this number.
+-- The column of number i, from 0, and the number at which its row begins.
 abbrev pub columnOf : Section → ℕ → ℕ
 columnOf k i = i % widthOf k
 
