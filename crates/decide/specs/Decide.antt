@@ -1,6 +1,6 @@
 -- Document 01, 'Day and entry', 'What is wanted', 'Refusals': what a clock and two commands decide at a site and a state, or why nothing.
 use Prim.Native.Nat.{ℕ}
-use mathlib.Core.Bool.{cond}
+use mathlib.Core.Bool.{Bool, cond}
 use lib.Dec.{eqb}
 use Rattle.site.specs.declared.Site.{Site}
 use Rattle.site.specs.Record.{spoiltSite}
@@ -14,11 +14,12 @@ use Rattle.state.specs.declared.State.{State}
 use Rattle.state.specs.State.{stateSpoilt}
 use Rattle.decide.specs.declared.Decided.{Decided}
 
--- Site, state, clock and commands are checked in the order of a tick: 14, 13, 8, 10.
+-- The number of the first check that refuses, in the order of a tick: 14, 13, 8, 10. 0 for none.
+unfoldable pub firstRefusal : Bool → Bool → Bool → Bool → ℕ
+firstRefusal site state clock commands = cond site 14 (cond state 13 (cond clock 8 (cond commands 10 0)))
+
 unfoldable pub refusalOf : Site → State → Clock → Command → Command → ℕ
-refusalOf x s clock manual centre =
-    cond (spoiltSite x) 14
-    (cond (stateSpoilt s (shapeOf x)) 13 (cond (clockBad clock) 8 (cond (commandsBad manual centre) 10 0)))
+refusalOf x s clock manual centre = firstRefusal (spoiltSite x) (stateSpoilt s (shapeOf x)) (clockBad clock) (commandsBad manual centre)
 
 unfoldable pub decidedOf : Site → State → Clock → Command → Command → Decided
 decidedOf x s clock manual centre = record {

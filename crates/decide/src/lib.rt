@@ -1,6 +1,6 @@
 // What is decided, asked for: by whoever wants to know, at a state as it stands.
 ghost use mathlib.Core.Path.{_≡_};
-ghost use Rattle.decide.specs.Decide.{refusalOf, decidedOf};
+ghost use Rattle.decide.specs.Decide.{firstRefusal, refusalOf, decidedOf};
 use calendar::Clock;
 use inputs::Command;
 use site::Site;
@@ -13,23 +13,35 @@ pub struct Decided {
     pub decision: Decision,
 }
 
+// The number of the first check that refuses, or 0, where it is told which of them do.
+fn first_refusal(site: bool, state: bool, clock: bool, commands: bool) -> u8
+    ensures { λ r. ⌜ r ≡ firstRefusal site state clock commands ⌝ }
+{
+    if site {
+        return site::SPOILT_SITE;
+    }
+    if state {
+        return state::SPOILT_STATE;
+    }
+    if clock {
+        return calendar::BAD_CLOCK;
+    }
+    if commands {
+        return inputs::BAD_COMMAND;
+    }
+    0
+}
+
 // Which check refuses to decide, or 0.
 fn refusal_of(site: Site, state: State, clock: Clock, manual: Command, centre: Command) -> u8
     ensures { λ r. ⌜ r ≡ refusalOf site state clock manual centre ⌝ }
 {
-    if site::spoilt(site) {
-        return site::SPOILT_SITE;
-    }
-    if state::spoilt(state, site::shape_of(site)) {
-        return state::SPOILT_STATE;
-    }
-    if calendar::clock_bad(clock) {
-        return calendar::BAD_CLOCK;
-    }
-    if inputs::commands_bad(manual, centre) {
-        return inputs::BAD_COMMAND;
-    }
-    0
+    first_refusal(
+        site::spoilt(site),
+        state::spoilt(state, site::shape_of(site)),
+        calendar::clock_bad(clock),
+        inputs::commands_bad(manual, centre),
+    )
 }
 
 // What is decided, or why it is not: the decision then has no day and no entry, and is dark.

@@ -1,0 +1,27 @@
+-- The code's tests are the definition's, in its order.
+use Rattle.decide.specs.Decide.{firstRefusal}
+use Rattle.decide.proofs.first_refusal.Statement.{statement}
+use Rattle.decide.proofs.first_refusal.Tie as tie
+
+returns : tie.Need-returns
+unfolding firstRefusal
+returns c = rw (c .if1 .taken)
+
+returns-2 : tie.Need-returns-2
+unfolding firstRefusal
+returns-2 c = rw (c .before .if1 .left, c .if2 .taken)
+
+returns-3 : tie.Need-returns-3
+unfolding firstRefusal
+returns-3 c = rw (c .before .before .if1 .left, c .before .if2 .left, c .if3 .taken)
+
+returns-4 : tie.Need-returns-4
+unfolding firstRefusal
+returns-4 c = rw (c .before .before .before .if1 .left, c .before .before .if2 .left, c .before .if3 .left, c .if4 .taken)
+
+returns-5 : tie.Need-returns-5
+unfolding firstRefusal
+returns-5 c = rw (c .before .before .before .if1 .left, c .before .before .if2 .left, c .before .if3 .left, c .if4 .left)
+
+pub first-refusal-spec : {M : Type 1} → statement M
+first-refusal-spec = tie.close (tie.spec returns returns-2 returns-3 returns-4 returns-5)
