@@ -7,7 +7,7 @@ use native.Mathlib.Omega.{arith}
 use lib.ListN.{length, length-append}
 use lib.Seq.{sets}
 use Rattle.numbers.specs.Words.{bytes}
-use Rattle.numbers.proofs.StoreLaws.{length-bytes, bytes-append}
+use Rattle.numbers.proofs.StoreLaws.{bytes-append}
 use Rattle.output.proofs.SetsLaws.{sets-append}
 use Rattle.site.specs.declared.Site.{Site}
 use Rattle.site.specs.Record.{spoiltSite}
@@ -27,10 +27,10 @@ module _ (p : Periods) (n m : ℕ) where
   mainline = rowsFrom (mainlineRow (p .last)) 0 m
 
   length-metered : length (bytes metered) ≡ n * 4
-  length-metered = let h = length-rows (meteredRow (p .last)) 2 (λ i. refl) 0 n in length-bytes metered ∙ omega arith
+  length-metered = length-rows (meteredRow (p .last)) 4 (λ i. refl) 0 n
 
   length-mainline : length (bytes mainline) ≡ m * 6
-  length-mainline = let h = length-rows (mainlineRow (p .last)) 3 (λ i. refl) 0 m in length-bytes mainline ∙ omega arith
+  length-mainline = length-rows (mainlineRow (p .last)) 6 (λ i. refl) 0 m
 
   is-parts : bytes (pollWords p n m) ≡ bytes head ++ (bytes metered ++ (bytes (m ∷ []) ++ bytes mainline))
   unfolding pollWords

@@ -1,9 +1,8 @@
 // The poll record, by which the control centre asks for the last completed period.
 ghost use mathlib.Core.Path.{_≡_};
 ghost use mathlib.Core.Bool.{cond};
-ghost use mathlib.Core.List.{_++_};
 ghost use Prim.Native.Nat.{_+_, _*_, _≤_};
-ghost use lib.ListN.{length, drop};
+ghost use lib.ListN.{length};
 ghost use lib.Seq.{sets};
 ghost use Rattle.numbers.specs.Words.{bytes};
 ghost use Rattle.output.specs.Output.{answerOf, bufferOf};

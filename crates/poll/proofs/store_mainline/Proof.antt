@@ -4,16 +4,15 @@ use Rattle.period.specs.declared.LaneCounts.{LaneCounts}
 use Rattle.period.specs.declared.Counts.{Counts}
 use Rattle.period.specs.Counts.{laneOf}
 use borrow.Author.Needs.{needs}
-use native.Mathlib.Omega.{arith}
+use denote.Ref.{now}
 use mathlib.Core.Path.{_≡_, refl, ap, _∙_}
 use mathlib.Core.List.{List, [], _∷_}
-use Prim.Native.Nat.{ℕ, _≤_, _+_, _-_, _*_}
-use lib.ListN.{length}
+use Prim.Native.Nat.{ℕ, _+_, _-_, _*_}
 use lib.Seq.{sets}
 use Rattle.numbers.specs.Words.{bytes}
-use Rattle.poll.specs.Poll.{mainlineRow, rowsFrom}
+use Rattle.poll.specs.Poll.{mainlineRow}
 use Rattle.period.specs.Counts.{goodOf}
-use Rattle.poll.proofs.RowLaws.{rows-turn}
+use Rattle.poll.proofs.RowLaws.{RowsLeft, rows-at-start, rows-turn, rows-all}
 use Rattle.poll.proofs.store_mainline.Statement.{statement}
 use Rattle.poll.proofs.store_mainline.Tie as tie
 
@@ -22,17 +21,13 @@ is-row : (c : Counts) (j : ℕ) (lane : LaneCounts) (good : ℕ) → lane ≡ la
 is-row c j lane good e g = rw (g, e)
 
 abbrev Inv-loop : tie.InvT-loop
-Inv-loop out₀ at c m j₀ out j = (j ≤ m) × (length out ≡ length out₀) × (sets out (at + j * 6) (bytes (rowsFrom (mainlineRow c) j (m - j))) ≡ sets out₀ at (bytes (rowsFrom (mainlineRow c) 0 m)))
+Inv-loop out₀ at c m j₀ out j = RowsLeft (mainlineRow c) 6 out₀ at m out j
 
 abbrev μ-loop : tie.MeasureT-loop
 μ-loop out₀ at c m j₀ out j = m - j
 
 loop-holds : tie.Need-loop-holds Inv-loop μ-loop
-loop-holds c =
-    let a = c .before .args in
-    let e : a .at + 0 ≡ a .at = omega arith in
-    let f : a .m - 0 ≡ a .m = omega arith in
-    (search needs, refl, rw (e, f))
+loop-holds c = let a = c .before .args in rows-at-start (mainlineRow (a .c)) 6 (λ k. refl) (now (a .out)) (a .at) (a .m)
 
 lane-counts-requires : tie.Need-lane-counts-requires Inv-loop μ-loop
 lane-counts-requires c κs = search needs
@@ -65,16 +60,10 @@ loop-again : tie.Need-loop-again Inv-loop μ-loop
 loop-again c =
     let h = c .before .before .before .before .before .before .before .before in
     let a = h .before .before .args in
-    let j = h .loop .j in
     let g = c .before .before .before .before .before in
-    let row = is-row (a .c) j (g .before .lane-counts .result) (g .good-number .result) (g .before .lane-counts .ensures) (g .good-number .ensures) in
-    let stored = c .before .before .store .ensures ∙ ap (λ (l : List ℕ). sets (h .loop .out) (a .at + j * 6) (bytes l)) row in (
-      search needs,
-      search needs,
-      ap (λ (l : List ℕ). sets l (a .at + (j + 1) * 6) (bytes (rowsFrom (mainlineRow (a .c)) (j + 1) (a .m - (j + 1))))) stored
-          ∙ rows-turn (mainlineRow (a .c)) 3 (λ k. refl) (h .loop .out) j (a .m) (a .at + j * 6) _ (search needs) (omega arith)
-          ∙ h .loop .inv .2,
-    )
+    let row = is-row (a .c) (h .loop .j) (g .before .lane-counts .result) (g .good-number .result) (g .before .lane-counts .ensures) (g .good-number .ensures) in
+    let stored = c .before .before .store .ensures ∙ ap (λ (l : List ℕ). sets (h .loop .out) (a .at + h .loop .j * 6) (bytes l)) row in
+    rows-turn (mainlineRow (a .c)) 6 (λ k. refl) _ (a .at) (a .m) _ (h .loop .j) (h .loop .inv) _ (search needs) stored (search needs)
 
 same-length : tie.Need-same-length Inv-loop μ-loop
 same-length c = search needs
@@ -83,8 +72,7 @@ returns : tie.Need-returns Inv-loop μ-loop
 returns c =
     let h = c .before in
     let a = h .before .before .args in
-    let e : a .m - h .loop .j ≡ 0 = omega arith in
-    rw e at (h .loop .inv .2)
+    rows-all (mainlineRow (a .c)) 6 (λ k. refl) _ (a .at) (a .m) _ (h .loop .j) (h .loop .inv) (search needs)
 
 pub store-mainline-spec : {M : Type 1} → statement M
 store-mainline-spec =

@@ -1,29 +1,21 @@
 -- The loop's invariant: storing the lanes that are left, from their place on, leaves what storing all leaves.
 use borrow.Author.Needs.{needs}
-use native.Mathlib.Omega.{arith}
-use mathlib.Core.Path.{_≡_, refl, ap, _∙_}
-use mathlib.Core.List.{List}
-use Prim.Native.Nat.{ℕ, _≤_, _+_, _-_, _*_}
-use lib.ListN.{length}
-use lib.Seq.{sets}
-use Rattle.numbers.specs.Words.{bytes}
-use Rattle.poll.specs.Poll.{meteredRow, rowsFrom}
-use Rattle.poll.proofs.RowLaws.{rows-turn}
+use denote.Ref.{now}
+use mathlib.Core.Path.{refl}
+use Prim.Native.Nat.{_-_}
+use Rattle.poll.specs.Poll.{meteredRow}
+use Rattle.poll.proofs.RowLaws.{RowsLeft, rows-at-start, rows-turn, rows-all}
 use Rattle.poll.proofs.store_metered.Statement.{statement}
 use Rattle.poll.proofs.store_metered.Tie as tie
 
 abbrev Inv-loop : tie.InvT-loop
-Inv-loop out₀ at n c i₀ out i = (i ≤ n) × (length out ≡ length out₀) × (sets out (at + i * 4) (bytes (rowsFrom (meteredRow c) i (n - i))) ≡ sets out₀ at (bytes (rowsFrom (meteredRow c) 0 n)))
+Inv-loop out₀ at n c i₀ out i = RowsLeft (meteredRow c) 4 out₀ at n out i
 
 abbrev μ-loop : tie.MeasureT-loop
 μ-loop out₀ at n c i₀ out i = n - i
 
 loop-holds : tie.Need-loop-holds Inv-loop μ-loop
-loop-holds c =
-    let a = c .before .args in
-    let e : a .at + 0 ≡ a .at = omega arith in
-    let f : a .n - 0 ≡ a .n = omega arith in
-    (search needs, refl, rw (e, f))
+loop-holds c = let a = c .before .args in rows-at-start (meteredRow (a .t3)) 4 (λ k. refl) (now (a .out)) (a .at) (a .n)
 
 cast-k : tie.Need-cast-k Inv-loop μ-loop
 cast-k c = search needs
@@ -62,13 +54,7 @@ loop-again : tie.Need-loop-again Inv-loop μ-loop
 loop-again c =
     let h = c .before .before .before .before .before .before .before .before in
     let a = h .before .before .args in
-    let i = h .loop .i in (
-      search needs,
-      search needs,
-      ap (λ (l : List ℕ). sets l (a .at + (i + 1) * 4) (bytes (rowsFrom (meteredRow (a .t3)) (i + 1) (a .n - (i + 1))))) (c .before .before .store .ensures)
-          ∙ rows-turn (meteredRow (a .t3)) 2 (λ k. refl) (h .loop .out) i (a .n) (a .at + i * 4) _ (search needs) (omega arith)
-          ∙ h .loop .inv .2,
-    )
+    rows-turn (meteredRow (a .t3)) 4 (λ k. refl) _ (a .at) (a .n) _ (h .loop .i) (h .loop .inv) _ (search needs) (c .before .before .store .ensures) (search needs)
 
 same-length : tie.Need-same-length Inv-loop μ-loop
 same-length c = search needs
@@ -77,8 +63,7 @@ returns : tie.Need-returns Inv-loop μ-loop
 returns c =
     let h = c .before in
     let a = h .before .before .args in
-    let e : a .n - h .loop .i ≡ 0 = omega arith in
-    rw e at (h .loop .inv .2)
+    rows-all (meteredRow (a .t3)) 4 (λ k. refl) _ (a .at) (a .n) _ (h .loop .i) (h .loop .inv) (search needs)
 
 pub store-metered-spec : {M : Type 1} → statement M
 store-metered-spec =

@@ -5,7 +5,6 @@ use Rattle.period.specs.declared.LaneCounts.{LaneCounts}
 use Prim.Native.Nat.{_≤_, _-_}
 use mathlib.Core.Logic.{⊎-elim}
 use mathlib.Core.Path.{_≡_, sym, _∙_}
-use native.Mathlib.Omega.{arith}
 use borrow.Author.Needs.{needs}
 use Rattle.levels.proofs.measure.lane_totals.Statement.{statement}
 use Rattle.levels.proofs.measure.lane_totals.Tie as tie
