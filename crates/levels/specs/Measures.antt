@@ -1,5 +1,4 @@
--- Document 01, 'What is wanted': "A lane is good if it worked at all 300. Over good lanes, rounded down: flow = vehicles × 120 ÷ lanes;
--- occupancy = occupied ms ÷ (30 × lanes); mean speed = sum of speeds ÷ vehicles that had one."
+-- Document 01, 'What is wanted': what a period's counts measure "over good lanes".
 use Prim.Native.Nat.{ℕ, zero, suc, _+_, _*_, _/_}
 use mathlib.Core.Bool.{cond}
 use lib.Dec.{ltb, eqb}
@@ -16,6 +15,7 @@ abbrev pub overGood : Counts → (LaneCounts → ℕ) → ℕ → ℕ
 overGood c f zero = 0
 overGood c f (suc m) = overGood c f m + cond (goodOf (laneOf c m)) (f (laneOf c m)) 0
 
+-- Over the good ones of m mainline lanes: how many they are, and the sums of their counts.
 unfoldable pub totalsOf : Counts → ℕ → Totals
 totalsOf c m = record {
   lanes = overGood c (λ (l : LaneCounts). 1) m;
@@ -25,7 +25,8 @@ totalsOf c m = record {
   speeds = overGood c (λ (l : LaneCounts). l .speeds) m;
 }
 
--- Where there is a good lane; without a vehicle that had a speed the mean speed is not known.
+-- "Rounded down: flow = vehicles × 120 ÷ lanes; occupancy = occupied ms ÷ (30 × lanes); mean speed = sum of speeds ÷ vehicles that had one."
+-- Without such a vehicle the mean speed is not known, and 0.
 unfoldable pub measuresOf : Totals → Measures
 measuresOf t = record {
   flow = t .vehicles * 120 / t .lanes;
@@ -34,6 +35,6 @@ measuresOf t = record {
   speed = cond (ltb 0 (t .timed)) (t .speeds / t .timed) 0;
 }
 
--- What a period's counts measured on m mainline lanes.
+-- What a period's counts measured on m mainline lanes, where there is a good lane.
 unfoldable pub measuredOf : Counts → ℕ → Measured
 measuredOf c m = cond (eqb (totalsOf c m .lanes) 0) NoGoodLane (Over (measuresOf (totalsOf c m)))

@@ -1,12 +1,17 @@
 // What the last completed period measured over its good lanes.
 ghost use mathlib.Core.Path.{_≡_};
-ghost use Prim.Native.Nat.{_*_, _≤_};
+ghost use Prim.Native.Nat.{_*_, _/_, _≤_, _<_};
 ghost use Rattle.levels.specs.Measures.{totalsOf, measuredOf};
 use period::Counts;
 
+// A period is 30 s: so many make an hour, and so many milliseconds are a tenth of a percent of one.
+const PERIODS_IN_AN_HOUR: u64 = 120;
+
+const TENTH_OF_A_PERCENT: u64 = 30;
+
 // Sums over the good lanes.
 struct Totals {
-    lanes: u64,
+    lanes: u16,
     vehicles: u64,
     // milliseconds
     occupied: u64,
@@ -36,7 +41,7 @@ fn lane_totals(c: Counts, m: u16) -> Totals
     ensures is { λ r. ⌜ r ≡ totalsOf c m ⌝ }
     ensures small { λ r. ⌜ (r .lanes ≤ m) × (r .vehicles ≤ 65535 * m) ⌝ }
 {
-    let mut lanes: u64 = 0;
+    let mut lanes: u16 = 0;
     let mut vehicles: u64 = 0;
     let mut occupied: u64 = 0;
     let mut timed: u64 = 0;
@@ -62,16 +67,25 @@ fn lane_totals(c: Counts, m: u16) -> Totals
     }
 }
 
+// Vehicles an hour per lane.
+fn flow_of(vehicles: u64, lanes: u16) -> u64
+    requires { ⌜ (vehicles ≤ 65535 * 65535) × (0 < lanes) ⌝ }
+    ensures { λ r. ⌜ r ≡ vehicles * 120 / lanes ⌝ }
+{
+    vehicles * PERIODS_IN_AN_HOUR / (lanes as u64)
+}
+
 // What a period's counts measured on m mainline lanes, if one of them was good.
 pub fn measured_on(c: Counts, m: u16) -> Measured
     ensures { λ r. ⌜ r ≡ measuredOf c m ⌝ }
 {
     let t = lane_totals(c, m);
-    if t.lanes == 0 {
+    let lanes = t.lanes;
+    if lanes == 0 {
         return Measured::NoGoodLane;
     }
-    let flow = t.vehicles * 120 / t.lanes;
-    let occupancy = t.occupied / (30 * t.lanes);
+    let flow = flow_of(t.vehicles, lanes);
+    let occupancy = t.occupied / (TENTH_OF_A_PERCENT * (lanes as u64));
     if t.timed == 0 {
         return Measured::Over(Measures {
             flow,

@@ -11,13 +11,13 @@ lane-totals-requires c κs = search needs
 
 returns : tie.Need-returns
 unfolding measuredOf
-returns c = rw (← c .before .before .lane-totals .ensures .0, eq-eqb _ _ (c .if1 .taken))
+returns c = rw (← c .before .lane-totals .ensures .0, eq-eqb _ _ (c .if1 .taken))
 
-mul-flow : tie.Need-mul-flow
-mul-flow c = search needs
+flow-of-requires : tie.Need-flow-of-requires
+flow-of-requires c κs = search needs
 
-div-flow : tie.Need-div-flow
-div-flow c = search needs
+cast-occupancy : tie.Need-cast-occupancy
+cast-occupancy c = search needs
 
 mul-occupancy : tie.Need-mul-occupancy
 mul-occupancy c = search needs
@@ -28,19 +28,19 @@ div-occupancy c = search needs
 returns-2 : tie.Need-returns-2
 unfolding measuredOf measuresOf
 returns-2 c =
-    let p = c .before .before .before .before .before .before in
-    let t = p .before .before .lane-totals in
-    rw (← t .ensures .0, ne-eqb _ _ (p .if1 .left), le-ltb 0 (t .result .timed) (omega arith))
+    let f = c .before .before .before in
+    let t = f .before .before .lane-totals in
+    rw (← t .ensures .0, ne-eqb _ _ (f .before .if1 .left), le-ltb 0 (t .result .timed) (omega arith), f .flow-of .ensures)
 
-div-t7 : tie.Need-div-t7
-div-t7 c = search needs
+div-t9 : tie.Need-div-t9
+div-t9 c = search needs
 
 returns-3 : tie.Need-returns-3
 unfolding measuredOf measuresOf
 returns-3 c =
-    let p = c .before .before .before .before .before .before .before in
-    let t = p .before .before .lane-totals in
-    rw (← t .ensures .0, ne-eqb _ _ (p .if1 .left), lt-ltb 0 (t .result .timed) (omega arith))
+    let f = c .before .before .before .before in
+    let t = f .before .before .lane-totals in
+    rw (← t .ensures .0, ne-eqb _ _ (f .before .if1 .left), lt-ltb 0 (t .result .timed) (omega arith), f .flow-of .ensures)
 
 pub measured-on-spec : {M : Type 1} → statement M
 measured-on-spec =
@@ -48,10 +48,10 @@ measured-on-spec =
     (tie.spec
     lane-totals-requires
     returns
-    mul-flow
-    div-flow
+    flow-of-requires
+    cast-occupancy
     mul-occupancy
     div-occupancy
     returns-2
-    div-t7
+    div-t9
     returns-3)
