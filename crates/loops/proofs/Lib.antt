@@ -1,2 +1,3 @@
 pub mod AnyLaws
 pub mod Rules
+pub mod Cases

@@ -4,7 +4,8 @@ mod cycle;
 ghost use mathlib.Core.Path.{_≡_};
 ghost use Prim.Native.Nat.{_≤_};
 ghost use lib.ListN.{getD};
-ghost use Rattle.release.specs.Release.{isReady, readyAt, anyGreen, mayRelease, nextLane, firstAfter, releasedOf, greenIf, releaseOf};
+ghost use Rattle.turns.specs.Turn.{nextOf, firstAfter};
+ghost use Rattle.release.specs.Release.{isReady, readyAt, anyGreen, mayRelease, releasedOf, greenIf, releaseOf};
 pub use cycle::cycle_ticks;
 use lanes::GREEN;
 use lanes::Lane;
@@ -77,7 +78,7 @@ fn may_release(t: Timings, cycle: u16, s: Lanes) -> bool
 
 // The lane after lane k, of n.
 fn next_lane(n: u16, k: u16) -> u16
-    ensures { λ r. ⌜ r ≡ nextLane n k ⌝ }
+    ensures { λ r. ⌜ r ≡ nextOf n k ⌝ }
 {
     if k < n { k + 1 } else { 1 }
 }

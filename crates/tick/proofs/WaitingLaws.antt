@@ -14,7 +14,7 @@ use Rattle.site.specs.Record.{spoiltSite}
 use Rattle.site.specs.Named.{timingsOf, meteredLanes, shapeOf}
 use Rattle.site.proofs.TimingLaws.{timings-good}
 use Rattle.timings.specs.declared.Timings.{Timings}
-use Rattle.lanes.proofs.LaneLaws.{by-test}
+use Rattle.loops.proofs.Cases.{by-test}
 use Rattle.release.proofs.CycleLaws.{up-grows}
 use Rattle.group.specs.declared.Group.{Group}
 use Rattle.group.specs.declared.indication.Indications.{Indications}
