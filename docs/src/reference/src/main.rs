@@ -14,7 +14,9 @@
 //! - `replay-ticks`: the ticks of `crates/replay`.
 //! - `replay-cases stdout`: what `crates/replay_cases` prints.
 //! - `replay-files FOLDER`: the files that it reads.
-//! - `site-files FOLDER`: the site files that the timetable's test programs read.
+//! - `paper-site`: the site file of `crates/timetable`.
+//! - `timetable-cases stdout`: what `crates/timetable_cases` prints.
+//! - `timetable-files FOLDER`: the files that it reads.
 
 mod calendar;
 mod cases;
@@ -34,6 +36,7 @@ mod tick;
 mod tick_cases;
 mod tick_run;
 mod timetable;
+mod timetable_files;
 mod timings;
 mod wanted;
 
@@ -123,28 +126,9 @@ fn main() -> Result<()> {
         ["replay-ticks"] => out.write_all(replay_files::ticks().as_bytes()),
         ["replay-cases", "stdout"] => out.write_all(replay_files::answers().as_bytes()),
         ["replay-files", folder] => replay_files::files().iter().try_for_each(|(name, file)| std::fs::write(format!("{folder}/{name}"), file)),
-        ["site-files", folder] => {
-            let mut paper = files::site_a();
-            paper.entries = vec![[2, 330, 2, 600, 0], [2, 330, 2, 720, 0], [130, 1170, 0, 0, 0]];
-            let mut shuffled = files::site_a();
-            shuffled.entries = (0..16).map(|i| [255, [600, 0, 1439][i % 3], 2, 150 + i as u16, 0]).collect();
-            let longest = site::bytes(&files::longest());
-            let mut oversized = longest.clone();
-            oversized.resize(10_000, 7);
-            let mut bad = site::bytes(&files::site_with_rows());
-            bad[9] = 101;
-            let cases = [
-                ("paper.bin", site::bytes(&paper)),
-                ("empty_lists.bin", site::bytes(&files::site_a())),
-                ("rows.bin", site::bytes(&files::site_with_rows())),
-                ("equal_starts.bin", site::bytes(&shuffled)),
-                ("longest.bin", longest),
-                ("oversized.bin", oversized),
-                ("minimum_green.bin", bad),
-                ("zeros.bin", vec![0; 10_000]),
-            ];
-            cases.iter().try_for_each(|(name, file)| std::fs::write(format!("{folder}/{name}"), file))
-        }
+        ["paper-site"] => out.write_all(&site::bytes(&timetable_files::paper())),
+        ["timetable-cases", "stdout"] => out.write_all(timetable_files::answers().as_bytes()),
+        ["timetable-files", folder] => timetable_files::write(folder),
         _ => {
             eprintln!("reference: no such test: {words:?}");
             std::process::exit(2)
