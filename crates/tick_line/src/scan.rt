@@ -8,11 +8,14 @@ const MOST_TENTH: u64 = 4294967295;
 
 const MOST: u32 = 65535;
 
-// The tenth is the fourth number.
+// The tenth is the fourth number; its halves have the row's places 3 and 4.
 const TENTH: u16 = 3;
 
-// The most numbers that a line has.
-const NUMBERS: u16 = 42;
+const AFTER_TENTH: u16 = 5;
+
+const HALF: u32 = 65536;
+
+const LONGEST_ROW: u16 = tick_row::LONGEST_ROW as u16;
 
 pub struct Scan {
     // whether the bytes so far can begin a tick
@@ -20,10 +23,9 @@ pub struct Scan {
     // whether the present number has a digit, and its value so far
     pub begun: bool,
     pub value: u32,
-    // the numbers before it: how many, the tenth, and the others in their places
+    // the tick's row before it, and how many of its numbers are there
     pub count: u16,
-    pub tenth: u32,
-    pub numbers: [u16; 42],
+    pub row: [u16; tick_row::LONGEST_ROW],
 }
 
 // Before the first byte of a line.
@@ -35,8 +37,7 @@ pub fn line_start() -> Scan
         begun: false,
         value: 0,
         count: 0,
-        tenth: 0,
-        numbers: [0u16; 42],
+        row: [0u16; tick_row::LONGEST_ROW],
     }
 }
 
@@ -49,8 +50,7 @@ pub fn no_tick() -> Scan
         begun: false,
         value: 0,
         count: 0,
-        tenth: 0,
-        numbers: [0u16; 42],
+        row: [0u16; tick_row::LONGEST_ROW],
     }
 }
 
@@ -65,14 +65,13 @@ fn with_digit(s: Scan, digit: u8) -> Scan
     if MOST_TENTH < value {
         return no_tick();
     }
-    let numbers = s.numbers;
+    let row = s.row;
     Scan {
         good: true,
         begun: true,
         value: value as u32,
         count: s.count,
-        tenth: s.tenth,
-        numbers,
+        row,
     }
 }
 
@@ -80,36 +79,39 @@ fn with_digit(s: Scan, digit: u8) -> Scan
 pub fn ended(s: Scan) -> Scan
     ensures { λ r. ⌜ r ≡ ended s ⌝ }
 {
+    if !s.good {
+        return no_tick();
+    }
     if !s.begun {
         return no_tick();
     }
     let count = s.count;
     let value = s.value;
-    let mut numbers = s.numbers;
+    let mut row = s.row;
     if count == TENTH {
+        row[3] = (value / HALF) as u16;
+        row[4] = (value % HALF) as u16;
         return Scan {
             good: true,
             begun: false,
             value: 0,
-            count: 4,
-            tenth: value,
-            numbers,
+            count: AFTER_TENTH,
+            row,
         };
     }
     if MOST < value {
         return no_tick();
     }
-    if NUMBERS <= count {
+    if LONGEST_ROW <= count {
         return no_tick();
     }
-    numbers[count as usize] = value as u16;
+    row[count as usize] = (value % HALF) as u16;
     Scan {
         good: true,
         begun: false,
         value: 0,
         count: count + 1,
-        tenth: s.tenth,
-        numbers,
+        row,
     }
 }
 

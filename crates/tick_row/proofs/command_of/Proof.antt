@@ -1,8 +1,8 @@
 -- Each number is the definition's.
-use Rattle.tick_line.specs.Reading.{commandOf}
+use Rattle.tick_row.specs.Row.{commandOf}
 use borrow.Author.Needs.{needs}
-use Rattle.tick_line.proofs.reading.command_of.Statement.{statement}
-use Rattle.tick_line.proofs.reading.command_of.Tie as tie
+use Rattle.tick_row.proofs.command_of.Statement.{statement}
+use Rattle.tick_row.proofs.command_of.Tie as tie
 
 number-at-requires : tie.Need-number-at-requires
 number-at-requires c κs = search needs

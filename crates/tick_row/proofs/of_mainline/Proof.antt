@@ -1,8 +1,8 @@
 -- Each lane's number is the definition's.
-use Rattle.tick_line.specs.Reading.{ofMainline}
+use Rattle.tick_row.specs.Row.{ofMainline}
 use borrow.Author.Needs.{needs}
-use Rattle.tick_line.proofs.reading.of_mainline.Statement.{statement}
-use Rattle.tick_line.proofs.reading.of_mainline.Tie as tie
+use Rattle.tick_row.proofs.of_mainline.Statement.{statement}
+use Rattle.tick_row.proofs.of_mainline.Tie as tie
 
 of-lane-requires : tie.Need-of-lane-requires
 of-lane-requires c κs = search needs
@@ -13,11 +13,17 @@ add-of-lane c = search needs
 of-lane-requires-2 : tie.Need-of-lane-requires-2
 of-lane-requires-2 c κs = search needs
 
+mul-of-lane : tie.Need-mul-of-lane
+mul-of-lane c = search needs
+
 add-of-lane-2 : tie.Need-add-of-lane-2
 add-of-lane-2 c = search needs
 
 of-lane-requires-3 : tie.Need-of-lane-requires-3
 of-lane-requires-3 c κs = search needs
+
+mul-of-lane-2 : tie.Need-mul-of-lane-2
+mul-of-lane-2 c = search needs
 
 add-of-lane-3 : tie.Need-add-of-lane-3
 add-of-lane-3 c = search needs
@@ -25,11 +31,17 @@ add-of-lane-3 c = search needs
 of-lane-requires-4 : tie.Need-of-lane-requires-4
 of-lane-requires-4 c κs = search needs
 
+mul-of-lane-3 : tie.Need-mul-of-lane-3
+mul-of-lane-3 c = search needs
+
 add-of-lane-4 : tie.Need-add-of-lane-4
 add-of-lane-4 c = search needs
 
 of-lane-requires-5 : tie.Need-of-lane-requires-5
 of-lane-requires-5 c κs = search needs
+
+mul-of-lane-4 : tie.Need-mul-of-lane-4
+mul-of-lane-4 c = search needs
 
 add-of-lane-5 : tie.Need-add-of-lane-5
 add-of-lane-5 c = search needs
@@ -48,12 +60,16 @@ of-mainline-spec =
     of-lane-requires
     add-of-lane
     of-lane-requires-2
+    mul-of-lane
     add-of-lane-2
     of-lane-requires-3
+    mul-of-lane-2
     add-of-lane-3
     of-lane-requires-4
+    mul-of-lane-3
     add-of-lane-4
     of-lane-requires-5
+    mul-of-lane-4
     add-of-lane-5
     of-lane-requires-6
     returns)

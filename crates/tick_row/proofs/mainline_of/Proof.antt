@@ -1,8 +1,8 @@
 -- Each of the four is the definition's.
-use Rattle.tick_line.specs.Reading.{mainlineOf}
+use Rattle.tick_row.specs.Row.{mainlineOf}
 use borrow.Author.Needs.{needs}
-use Rattle.tick_line.proofs.reading.mainline_of.Statement.{statement}
-use Rattle.tick_line.proofs.reading.mainline_of.Tie as tie
+use Rattle.tick_row.proofs.mainline_of.Statement.{statement}
+use Rattle.tick_row.proofs.mainline_of.Tie as tie
 
 of-mainline-requires : tie.Need-of-mainline-requires
 of-mainline-requires c κs = search needs

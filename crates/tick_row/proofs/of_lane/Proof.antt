@@ -1,9 +1,9 @@
 -- The code's test is the definition's.
 use Rattle.loops.proofs.Rules.{tests}
-use Rattle.tick_line.specs.Reading.{ofLane}
+use Rattle.tick_row.specs.Row.{ofLane}
 use borrow.Author.Needs.{needs}
-use Rattle.tick_line.proofs.reading.of_lane.Statement.{statement}
-use Rattle.tick_line.proofs.reading.of_lane.Tie as tie
+use Rattle.tick_row.proofs.of_lane.Statement.{statement}
+use Rattle.tick_row.proofs.of_lane.Tie as tie
 
 returns : tie.Need-returns
 unfolding ofLane
