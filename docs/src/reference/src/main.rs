@@ -23,6 +23,7 @@ mod cases;
 mod files;
 mod group;
 mod lanes;
+mod output;
 mod periods;
 mod poll;
 mod random;
@@ -31,6 +32,7 @@ mod replay;
 mod replay_files;
 mod simulated_day;
 mod site;
+mod site_run;
 mod tally;
 mod tick;
 mod tick_cases;
@@ -49,28 +51,12 @@ fn framed(cases: &[Vec<u8>]) -> Vec<u8> {
     cases.iter().flat_map(|c| [&(c.len() as u16).to_be_bytes()[..], c].concat()).collect()
 }
 
-/// What `crates/site_bounds` prints.
-fn site_answers(files: &[Vec<u8>], tally: &mut Tally) -> String {
-    let answer = |file: &Vec<u8>| match site::read(file) {
-        Ok(site) => {
-            assert_eq!(&site::bytes(&site), file);
-            tally.count("sites", 1);
-            "accepted and rewritten\n".to_string()
-        }
-        Err(r) => {
-            tally.refused(r.number);
-            format!("refused {} at {}\n", r.number, r.place)
-        }
-    };
-    files.iter().map(answer).collect()
-}
-
 /// The stored cases of a program, or fresh ones of a seed, and what they give.
 fn cases_of(program: &str, seed: Option<u64>, tally: &mut Tally) -> (Vec<Vec<u8>>, String) {
     match program {
         "site-bounds" => {
             let files = seed.map_or_else(files::bound_files, random_cases::files);
-            let answers = site_answers(&files, tally);
+            let answers = files.iter().map(|file| site_run::answer(file, tally)).collect();
             (files, answers)
         }
         "wanted-cases" => {
