@@ -1,9 +1,8 @@
 //! Document 01 in plain Rust. `reference NAME` writes test inputs and what they should give:
 //!
 //! - `site-bounds stdin`, `site-bounds stdout`: the files of `crates/site_bounds`.
-//! - `wanted-cases stdin`, `wanted-cases stdout`: the files of `crates/wanted_cases`.
-//! - `tick-cases stdin`, `tick-cases stdout`: the files of `crates/tick_cases`.
-//! - `random PROGRAM SEED FOLDER`: fresh cases of a seed for one of these three programs, as FOLDER/stdin, and what they give,
+//! - `call-cases stdin`, `call-cases stdout`: the files of `crates/call_cases`.
+//! - `random PROGRAM SEED FOLDER`: fresh cases of a seed for one of these two programs, as FOLDER/stdin, and what they give,
 //!   as FOLDER/stdout; prints how many of each kind they are.
 //! - `random timetable SEED FOLDER`: site files for the timetable program, FOLDER/0/site.bin and so on, and what it prints of
 //!   all of them, as FOLDER/stdout.
@@ -19,6 +18,8 @@
 //! - `timetable-files FOLDER`: the files that it reads.
 
 mod calendar;
+mod call_cases;
+mod call_run;
 mod cases;
 mod files;
 mod group;
@@ -28,15 +29,18 @@ mod periods;
 mod poll;
 mod random;
 mod random_cases;
+mod record;
+mod refusal_cases;
 mod replay;
 mod replay_files;
+mod row;
 mod simulated_day;
 mod site;
 mod site_run;
 mod tally;
+mod text;
 mod tick;
 mod tick_cases;
-mod tick_run;
 mod timetable;
 mod timetable_files;
 mod timings;
@@ -59,14 +63,9 @@ fn cases_of(program: &str, seed: Option<u64>, tally: &mut Tally) -> (Vec<Vec<u8>
             let answers = files.iter().map(|file| site_run::answer(file, tally)).collect();
             (files, answers)
         }
-        "wanted-cases" => {
-            let cases = cases::cases(seed.unwrap_or(cases::SEED));
-            let answers = cases.iter().map(|case| cases::line(case, tally)).collect();
-            (cases.iter().map(cases::payload).collect(), answers)
-        }
         _ => {
-            let cases = seed.map_or_else(tick_cases::cases, random_cases::tick_cases);
-            let answers = cases.iter().map(|case| tick_run::answer(case, tally)).collect();
+            let cases = seed.map_or_else(call_cases::cases, random_cases::call_cases);
+            let answers = cases.iter().map(|case| call_run::answer(case, tally)).collect();
             (cases, answers)
         }
     }
@@ -77,11 +76,11 @@ fn main() -> Result<()> {
     let words: Vec<&str> = words.iter().map(String::as_str).collect();
     let mut out = std::io::stdout();
     match words[..] {
-        [program @ ("site-bounds" | "wanted-cases" | "tick-cases"), stream @ ("stdin" | "stdout")] => {
+        [program @ ("site-bounds" | "call-cases"), stream @ ("stdin" | "stdout")] => {
             let (cases, answers) = cases_of(program, None, &mut Tally::default());
             out.write_all(if stream == "stdin" { framed(&cases) } else { answers.into_bytes() }.as_slice())
         }
-        ["random", program @ ("site-bounds" | "wanted-cases" | "tick-cases"), seed, folder] => {
+        ["random", program @ ("site-bounds" | "call-cases"), seed, folder] => {
             let tally = &mut Tally::default();
             let (cases, answers) = cases_of(program, Some(seed.parse().expect("a seed")), tally);
             std::fs::write(format!("{folder}/stdin"), framed(&cases))?;

@@ -11,7 +11,7 @@ const ROOM: usize = 4096;
 /// Into a buffer with much room, into one that just holds the bytes, and into one that is a byte shorter.
 fn line(name: &str, bytes: &[u8], tally: &mut Tally) -> String {
     let outcome = |size| Outcome::of(size, |out| write(bytes, out)).words();
-    tally.count("buffers too small", 1);
+    tally.refused(11);
     format!("{name} {} {} {}\n", outcome(ROOM), outcome(bytes.len()), outcome(bytes.len() - 1))
 }
 
