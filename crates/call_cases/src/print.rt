@@ -154,12 +154,6 @@ pub fn ticked(number: u16, line: Line) {
 
 // The other calls.
 
-pub fn refused_file(refusal: u8, place: usize) {
-    let mut out = io::buffer();
-    let end = phrases::put_refusal(&mut out, 0, refusal, place);
-    test_output::print(&out, end);
-}
-
 pub fn powered(refusal: u8) {
     let mut out = io::buffer();
     let p = text::put_bytes(&mut out, 0, b"power");

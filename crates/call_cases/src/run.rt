@@ -199,7 +199,7 @@ fn run_ops(mut run: Run, ops: &[u8]) {
 pub fn answer_case(file: &[u8], ops: &[u8]) {
     let read = site_reader::read(file);
     if read.refusal != 0 {
-        print::refused_file(read.refusal, read.place);
+        test_output::print_refusal(read.refusal, read.place);
         return;
     }
     let site = read.site;

@@ -1,6 +1,7 @@
 // Runs a whole day of ticks, one after the other from power-up, at the site whose file is standard
 // input. Prints how many were accepted, the lanes released, the periods polled, and a checksum of
-// all that the driver and the control centre see. With an argument, the samples alone are made.
+// all that the driver and the control centre see; of a refused file why and where. With an argument,
+// the samples alone are made.
 mod random;
 
 use calendar::Clock;
@@ -213,6 +214,10 @@ fn main() {
     let mut file = [0u8; LONGEST];
     let n = io::read_full(STDIN_FILENO, &mut file);
     let read = site_reader::read(&file[..n]);
+    if read.refusal != 0 {
+        test_output::print_refusal(read.refusal, read.place);
+        return;
+    }
     let site = read.site;
     run(site);
 }

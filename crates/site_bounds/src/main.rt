@@ -82,12 +82,6 @@ fn print_prints(file: &[u8]) {
     print_line(b"print", much, just, print_to(file, short(written)));
 }
 
-fn print_refusal(refusal: u8, place: usize) {
-    let mut line = io::buffer();
-    let end = phrases::put_refusal(&mut line, 0, refusal, place);
-    test_output::print(&line, end);
-}
-
 fn print_rewritten(site: Site, file: &[u8]) {
     let mut out = test_output::buffer();
     let written = site_writer::write(site, &mut out);
@@ -102,7 +96,7 @@ fn print_rewritten(site: Site, file: &[u8]) {
 fn answer(file: &[u8]) {
     let read = site_reader::read(file);
     if read.refusal != 0 {
-        print_refusal(read.refusal, read.place);
+        test_output::print_refusal(read.refusal, read.place);
     } else {
         let site = read.site;
         print_rewritten(site, file);

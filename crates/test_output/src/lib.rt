@@ -44,6 +44,13 @@ pub fn print(text: &[u8], n: usize) {
     }
 }
 
+// The line of a site file that is refused.
+pub fn print_refusal(refusal: u8, place: usize) {
+    let mut line = io::buffer();
+    let end = phrases::put_refusal(&mut line, 0, refusal, place);
+    print(&line, end);
+}
+
 // What a call answered, and whether it left every byte behind what it wrote as it was.
 pub fn put_written(out: &mut [u8], at: usize, written: Written, kept: bool) -> usize {
     let p = phrases::put_blank_and_decimal(out, at, written.refusal as u64);

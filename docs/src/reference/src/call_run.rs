@@ -288,7 +288,7 @@ pub fn answer(case: &[u8], tally: &mut Tally) -> String {
         Ok(site) => site,
         Err(r) => {
             tally.refused(r.number);
-            return format!("refused {} at {}\n", r.number, r.place);
+            return text::refusal(r);
         }
     };
     tally.count("sites", 1);

@@ -6,8 +6,8 @@
 //!   as FOLDER/stdout; prints how many of each kind they are.
 //! - `random timetable SEED FOLDER`: site files for the timetable program, FOLDER/0/site.bin and so on, and what it prints of
 //!   all of them, as FOLDER/stdout.
-//! - `simulated-day stdin`, `simulated-day stdout`: the files of `crates/simulated_day`; `simulated-day samples`: what that
-//!   program prints of the samples alone.
+//! - `simulated-day stdin`: the site file of `crates/simulated_day`; `simulated-day`: what that program prints of the site file on
+//!   standard input; `simulated-day samples`: what it prints of the samples alone.
 //! - `timetable FILE`: what the timetable program prints of a file.
 //! - `replay FILE`: what the replay program prints of a site file and the ticks on standard input.
 //! - `replay-ticks`: the ticks of `crates/replay`.
@@ -98,7 +98,11 @@ fn main() -> Result<()> {
             writeln!(out, "{} timetables", files.len())
         }
         ["simulated-day", "stdin"] => out.write_all(&site::bytes(&simulated_day::site())),
-        ["simulated-day", "stdout"] => out.write_all(simulated_day::print(&simulated_day::site()).as_bytes()),
+        ["simulated-day"] => {
+            let mut file = Vec::new();
+            std::io::stdin().read_to_end(&mut file)?;
+            out.write_all(simulated_day::print(&file).as_bytes())
+        }
         ["simulated-day", "samples"] => out.write_all(simulated_day::print_samples().as_bytes()),
         ["timetable", file] => out.write_all(timetable::print(&std::fs::read(file)?).as_bytes()),
         ["replay", file] => {

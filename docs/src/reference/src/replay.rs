@@ -74,7 +74,7 @@ fn lines(text: &[u8]) -> Vec<&[u8]> {
 pub fn print(file: &[u8], text: &[u8]) -> String {
     let site = match site::read(file) {
         Ok(site) => site,
-        Err(r) => return format!("refused {} at {}\n", r.number, r.place),
+        Err(r) => return text::refusal(r),
     };
     let (_, mut state) = power_up(Some(&site));
     let mut out = HEADING.to_string();

@@ -4,7 +4,8 @@
 use crate::calendar::{Clock, Date};
 use crate::group::Indications;
 use crate::periods::Sample;
-use crate::site::{Site, UNUSED};
+use crate::site::{self, Site, UNUSED};
+use crate::text;
 use crate::tick::{poll_record, power_up, tick, Input};
 use crate::wanted::Command;
 
@@ -94,8 +95,15 @@ fn with_poll(sum: u32, poll: Result<Vec<u8>, u8>) -> u32 {
     }
 }
 
-/// What the program prints of the day at a site.
-pub fn print(site: &Site) -> String {
+/// What the program prints of a site file.
+pub fn print(file: &[u8]) -> String {
+    match site::read(file) {
+        Ok(site) => print_day(&site),
+        Err(r) => text::refusal(r),
+    }
+}
+
+fn print_day(site: &Site) -> String {
     let (_, mut state) = power_up(Some(site));
     let mut samples = Samples(SEED);
     let (mut accepted, mut released, mut polled, mut sum) = (0, 0, 0, 0);

@@ -3,6 +3,7 @@
 use crate::output::{write, Outcome};
 use crate::site;
 use crate::tally::Tally;
+use crate::text;
 use crate::timetable;
 
 /// The length of the longest buffer.
@@ -24,7 +25,7 @@ pub fn answer(file: &[u8], tally: &mut Tally) -> String {
         }
         Err(r) => {
             tally.refused(r.number);
-            format!("refused {} at {}\n", r.number, r.place)
+            text::refusal(r)
         }
     };
     read + &line("print", timetable::print(file).as_bytes(), tally)

@@ -1,10 +1,16 @@
 //! What both the replay program and the test programs print.
 
 use crate::group::Indications;
+use crate::site::Refused;
 use crate::timetable::DAYS;
 use crate::wanted::{Decision, Wish};
 
 const LETTERS: [char; 4] = ['D', 'R', 'Y', 'G'];
+
+/// The line of a refused site file.
+pub fn refusal(r: Refused) -> String {
+    format!("refused {} at {}\n", r.number, r.place)
+}
 
 /// The first n lanes' colours and lower greens, and the sign.
 pub fn lamps(x: &Indications, n: usize) -> String {
