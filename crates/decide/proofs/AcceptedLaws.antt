@@ -4,7 +4,8 @@ use mathlib.Core.Path.{_≡_, refl}
 use mathlib.Core.Bool.{Bool, true, false}
 use native.Mathlib.Omega.{arith}
 use Rattle.site.specs.declared.Site.{Site}
-use Rattle.site.specs.Record.{meteredLanes, mainlineLanes, spoiltSite}
+use Rattle.site.specs.Record.{spoiltSite}
+use Rattle.site.specs.Named.{shapeOf}
 use Rattle.calendar.specs.declared.clock.Clock.{Clock}
 use Rattle.calendar.specs.Clock.{clockBad}
 use Rattle.inputs.specs.declared.Command.{Command}
@@ -14,7 +15,7 @@ use Rattle.state.specs.State.{stateSpoilt}
 use Rattle.decide.specs.Decide.{refusalOf}
 
 module _ (x : Site) (s : State) (clock : Clock) (manual centre : Command) where
-  cases : (a b c : Bool) → spoiltSite x ≡ a → stateSpoilt s (meteredLanes x) (mainlineLanes x) ≡ b → clockBad clock ≡ c
+  cases : (a b c : Bool) → spoiltSite x ≡ a → stateSpoilt s (shapeOf x) ≡ b → clockBad clock ≡ c
       → refusalOf x s clock manual centre ≡ 0
       → clock .tenth ≤ 863999
   unfolding refusalOf

@@ -3,7 +3,8 @@ use Prim.Native.Nat.{ℕ}
 use mathlib.Core.Bool.{cond}
 use lib.Dec.{eqb}
 use Rattle.site.specs.declared.Site.{Site}
-use Rattle.site.specs.Record.{meteredLanes, mainlineLanes, spoiltSite}
+use Rattle.site.specs.Record.{spoiltSite}
+use Rattle.site.specs.Named.{shapeOf}
 use Rattle.calendar.specs.declared.clock.Clock.{Clock}
 use Rattle.calendar.specs.Clock.{clockBad}
 use Rattle.inputs.specs.declared.Command.{Command}
@@ -17,7 +18,7 @@ use Rattle.decide.specs.declared.Decided.{Decided}
 unfoldable pub refusalOf : Site → State → Clock → Command → Command → ℕ
 refusalOf x s clock manual centre =
     cond (spoiltSite x) 14
-    (cond (stateSpoilt s (meteredLanes x) (mainlineLanes x)) 13 (cond (clockBad clock) 8 (cond (commandsBad manual centre) 10 0)))
+    (cond (stateSpoilt s (shapeOf x)) 13 (cond (clockBad clock) 8 (cond (commandsBad manual centre) 10 0)))
 
 unfoldable pub decidedOf : Site → State → Clock → Command → Command → Decided
 decidedOf x s clock manual centre = record {

@@ -20,7 +20,7 @@ fn refusal_of(site: Site, state: State, clock: Clock, manual: Command, centre: C
     if site::spoilt(site) {
         return site::SPOILT_SITE;
     }
-    if state::spoilt(state, site.timings[0], site.timings[14]) {
+    if state::spoilt(state, site::shape_of(site)) {
         return state::SPOILT_STATE;
     }
     if calendar::clock_bad(clock) {

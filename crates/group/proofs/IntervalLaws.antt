@@ -1,5 +1,5 @@
 -- Where a tick leads from each interval, and what it makes of the lanes.
-use Prim.Native.Nat.{ℕ, zero, suc, _≤_}
+use Prim.Native.Nat.{ℕ, zero, suc, _*_, _≤_}
 use mathlib.Core.Path.{_≡_, refl, sym, _∙_}
 use mathlib.Core.Bool.{Bool, true, false, cond, _||_, true≢false}
 use mathlib.Core.List.{List}
@@ -9,11 +9,10 @@ use lib.Dec.{ltb, leb, eqb}
 use Rattle.inputs.specs.declared.Metered.{Metered}
 use Rattle.wanted.specs.declared.wish.Wish.{Wish}
 use Rattle.wanted.specs.declared.wish.Wish.the-variants.{Dark, Green, Metering, Clear}
-use Rattle.lanes.specs.declared.Timings.{Timings}
+use Rattle.timings.specs.declared.Timings.{Timings}
 use Rattle.lanes.specs.declared.Lanes.{Lanes}
 use Rattle.lanes.specs.Lanes.{lanesTick, lanesEntered}
 use Rattle.lanes.proofs.LaneLaws.{by-test}
-use Rattle.group.specs.declared.interval.Times.{Times}
 use Rattle.group.specs.declared.Group.{Group}
 use Rattle.group.specs.Intervals.{ageOf, timeOf, fromDark, fromGreen, fromMetering, successorOf, nextInterval}
 use Rattle.group.specs.Group.{allRed, intervalOf, lanesIn, lanesMoved}
@@ -66,22 +65,22 @@ from-closing : (wish : Wish) (red : Bool) → Leads wish red 8 (cond red 9 8)
 from-closing wish true = record { most = omega arith; to-seven = λ e _. absurd (omega arith); to-eight = λ _. refl; to-other = λ _ _. refl }
 from-closing wish false = record { most = omega arith; to-seven = λ e _. absurd (omega arith); to-eight = λ _. refl; to-other = λ e _. absurd (true≢false e) }
 
-pub leads : (t : Times) (wish : Wish) (age : ℕ) (red : Bool) (i : ℕ) → i ≤ 9 → Leads wish red i (nextInterval t wish age red i)
+pub leads : (t : Timings) (wish : Wish) (age : ℕ) (red : Bool) (i : ℕ) → i ≤ 9 → Leads wish red i (nextInterval t wish age red i)
 unfolding nextInterval timeOf successorOf
 leads t wish age red zero h = by-test (leb 50 age) (λ e. rw e (other _ _ _ _ refl (omega arith) refl)) (λ e. rw e (other _ _ _ _ refl (omega arith) refl))
 leads t wish age red (suc zero) h =
     by-test (leb 0 age) (λ e. rw e (other _ _ _ _ refl (from-dark wish .0) (from-dark wish .1))) (λ e. rw e (other _ _ _ _ refl (omega arith) refl))
 leads t wish age red (suc (suc zero)) h =
-    let w = from-green wish (leb (t .longest) age) in
-    by-test (leb (t .shortest) age) (λ e. rw e (other _ _ _ _ refl (w .0) (w .1))) (λ e. rw e (other _ _ _ _ refl (omega arith) refl))
+    let w = from-green wish (leb (600 * t .maxpregreen) age) in
+    by-test (leb (t .minpregreen) age) (λ e. rw e (other _ _ _ _ refl (w .0) (w .1))) (λ e. rw e (other _ _ _ _ refl (omega arith) refl))
 leads t wish age red (suc (suc (suc zero))) h =
     by-test (leb (t .warning) age) (λ e. rw e (other _ _ _ _ refl (omega arith) refl)) (λ e. rw e (other _ _ _ _ refl (omega arith) refl))
 leads t wish age red (suc (suc (suc (suc zero)))) h =
-    by-test (leb (t .green) age) (λ e. rw e (other _ _ _ _ refl (omega arith) refl)) (λ e. rw e (other _ _ _ _ refl (omega arith) refl))
+    by-test (leb (t .startgreen) age) (λ e. rw e (other _ _ _ _ refl (omega arith) refl)) (λ e. rw e (other _ _ _ _ refl (omega arith) refl))
 leads t wish age red (suc (suc (suc (suc (suc zero))))) h =
-    by-test (leb (t .yellow) age) (λ e. rw e (other _ _ _ _ refl (omega arith) refl)) (λ e. rw e (other _ _ _ _ refl (omega arith) refl))
+    by-test (leb (t .startyellow) age) (λ e. rw e (other _ _ _ _ refl (omega arith) refl)) (λ e. rw e (other _ _ _ _ refl (omega arith) refl))
 leads t wish age red (suc (suc (suc (suc (suc (suc zero)))))) h =
-    by-test (leb (t .red) age) (λ e. rw e (other _ _ _ _ refl (omega arith) refl)) (λ e. rw e (other _ _ _ _ refl (omega arith) refl))
+    by-test (leb (t .startred) age) (λ e. rw e (other _ _ _ _ refl (omega arith) refl)) (λ e. rw e (other _ _ _ _ refl (omega arith) refl))
 leads t wish age red (suc (suc (suc (suc (suc (suc (suc zero))))))) h = rw (le-leb 0 age (omega arith)) (from-metering wish red)
 leads t wish age red (suc (suc (suc (suc (suc (suc (suc (suc zero)))))))) h = rw (le-leb 0 age (omega arith)) (from-closing wish red)
 leads t wish age red (suc (suc (suc (suc (suc (suc (suc (suc (suc zero))))))))) h =
@@ -107,12 +106,12 @@ module _ (t : Timings) (passage : List ℕ) (wish : Wish) (before : ℕ) (s : La
       (λ f. let q = eqb-true now 8 f in rw q (c (w .to-eight q)))
       (λ f. rw (e, f) (d now (w .most) (rw (e, f)) (w .to-other (rw (e, f))))))
 
-module _ (times : Times) (t : Timings) (wish : Wish) (samples : Metered) (g : Group) (h : g .interval ≤ 9) (P : ℕ → Lanes → Type 0) where
+module _ (t : Timings) (wish : Wish) (samples : Metered) (g : Group) (h : g .interval ≤ 9) (P : ℕ → Lanes → Type 0) where
   pub lanes-cases : (g .interval ≡ 7 → fromMetering wish ≡ 7 → P 7 (lanesTick t (g .lanes) (samples .passage)))
       → (eqb (g .interval) 7 ≡ false → P 7 (lanesEntered (t .lanes)))
       → (isOwn (g .interval) ≡ true → P 8 (lanesTick t (g .lanes) (samples .passage)))
       → ((k : ℕ) → k ≤ 9 → isOwn k ≡ false → (isOwn (g .interval) ≡ true → allRed (g .lanes) (t .lanes) ≡ true) → P k (g .lanes))
-      → P (intervalOf times t wish g) (lanesMoved times t wish samples g)
+      → P (intervalOf t wish g) (lanesMoved t wish samples g)
   unfolding lanesMoved intervalOf
   lanes-cases a b c d =
-      cases t (samples .passage) wish (g .interval) (g .lanes) P _ (leads times wish (ageOf (g .age)) (allRed (g .lanes) (t .lanes)) (g .interval) h) a b c d
+      cases t (samples .passage) wish (g .interval) (g .lanes) P _ (leads t wish (ageOf (g .age)) (allRed (g .lanes) (t .lanes)) (g .interval) h) a b c d

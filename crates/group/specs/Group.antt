@@ -6,11 +6,10 @@ use lib.Dec.{eqb}
 use Rattle.loops.specs.Any.{anyFrom}
 use Rattle.inputs.specs.declared.Metered.{Metered}
 use Rattle.wanted.specs.declared.wish.Wish.{Wish}
-use Rattle.lanes.specs.declared.Timings.{Timings}
+use Rattle.timings.specs.declared.Timings.{Timings}
 use Rattle.lanes.specs.declared.Lanes.{Lanes}
 use Rattle.lanes.specs.Lanes.{laneOf, lanesTick, lanesEntered}
 use Rattle.release.specs.Release.{releasedOf, releaseOf}
-use Rattle.group.specs.declared.interval.Times.{Times}
 use Rattle.group.specs.declared.Group.{Group}
 use Rattle.group.specs.declared.Moved.{Moved}
 use Rattle.group.specs.Intervals.{ageOf, nextInterval}
@@ -19,8 +18,8 @@ unfoldable pub allRed : Lanes → ℕ → Bool
 allRed s n = not (anyFrom (λ i. not (eqb (laneOf s i .colour) 1)) 0 n)
 
 -- The interval after the tick. "8 becomes 9 at the first later tick that finds all lanes red as the tick before left them."
-unfoldable pub intervalOf : Times → Timings → Wish → Group → ℕ
-intervalOf times t wish g = nextInterval times wish (ageOf (g .age)) (allRed (g .lanes) (t .lanes)) (g .interval)
+unfoldable pub intervalOf : Timings → Wish → Group → ℕ
+intervalOf t wish g = nextInterval t wish (ageOf (g .age)) (allRed (g .lanes) (t .lanes)) (g .interval)
 
 -- The lane intervals. "In 7 and 8, from the tick after that entry, ages and counters rise by one a tick ..; outside them the lanes' numbers
 -- stand still."
@@ -38,15 +37,15 @@ unfoldable pub groupOf : Group → ℕ → Lanes → Group
 groupOf g now s = record { interval = now; age = cond (eqb now (g .interval)) (ageOf (g .age)) 0; lanes = s }
 
 -- The lanes as the tick's lane intervals leave them.
-unfoldable pub lanesMoved : Times → Timings → Wish → Metered → Group → Lanes
-lanesMoved times t wish samples g = lanesIn t (samples .passage) (g .interval) (intervalOf times t wish g) (g .lanes)
+unfoldable pub lanesMoved : Timings → Wish → Metered → Group → Lanes
+lanesMoved t wish samples g = lanesIn t (samples .passage) (g .interval) (intervalOf t wish g) (g .lanes)
 
 -- The group with its release.
 unfoldable pub movedWith : Group → ℕ → Lanes → ℕ → Moved
 movedWith g now s released = record { group = groupOf g now (releaseOf s released); released = released }
 
-unfoldable pub movedOf : Times → Timings → Wish → ℕ → Metered → Group → Moved
-movedOf times t wish cycle samples g =
-    let now : ℕ = intervalOf times t wish g in
-    let s : Lanes = lanesMoved times t wish samples g in
+unfoldable pub movedOf : Timings → Wish → ℕ → Metered → Group → Moved
+movedOf t wish cycle samples g =
+    let now : ℕ = intervalOf t wish g in
+    let s : Lanes = lanesMoved t wish samples g in
     movedWith g now s (releasedIn t cycle (samples .demand) now s)

@@ -2,6 +2,16 @@
 ghost use mathlib.Core.Path.{_≡_};
 ghost use Rattle.group.specs.Indications.{colourShown, lowerShown, signShown, laneShown, indicationsOf, allDark};
 use crate::Group;
+use crate::interval::CLOSING;
+use crate::interval::DARK;
+use crate::interval::INITIALIZATION;
+use crate::interval::METERING;
+use crate::interval::PRE_GREEN;
+use crate::interval::SHUTDOWN_RED;
+use crate::interval::STARTUP_GREEN;
+use crate::interval::STARTUP_RED;
+use crate::interval::STARTUP_YELLOW;
+use crate::interval::WARNING;
 use lanes::GREEN;
 use lanes::RED;
 use lanes::YELLOW;
@@ -19,16 +29,16 @@ fn colour_shown(interval: u16, own: u16) -> u16
     ensures { λ r. ⌜ r ≡ colourShown interval own ⌝ }
 {
     match interval {
-        0 => 0,
-        1 => 0,
-        2 => GREEN,
-        3 => GREEN,
-        4 => GREEN,
-        5 => YELLOW,
-        6 => RED,
-        7 => own,
-        8 => own,
-        9 => RED,
+        INITIALIZATION => 0,
+        DARK => 0,
+        PRE_GREEN => GREEN,
+        WARNING => GREEN,
+        STARTUP_GREEN => GREEN,
+        STARTUP_YELLOW => YELLOW,
+        STARTUP_RED => RED,
+        METERING => own,
+        CLOSING => own,
+        SHUTDOWN_RED => RED,
         _ => 0,
     }
 }
@@ -48,7 +58,7 @@ fn lower_shown(colour: u16) -> u16
 fn sign_shown(interval: u16) -> u16
     ensures { λ r. ⌜ r ≡ signShown interval ⌝ }
 {
-    if interval < 3 { 0 } else { 1 }
+    if interval < WARNING { 0 } else { 1 }
 }
 
 fn lane_shown(g: Group, n: u16, i: u16) -> u16

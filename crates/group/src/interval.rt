@@ -1,27 +1,38 @@
 // The group's interval: its time, and where it leads.
 ghost use mathlib.Core.Path.{_≡_};
+ghost use Prim.Native.Nat.{_*_};
 ghost use Rattle.group.specs.Intervals.{ageOf, timeOf, fromDark, fromGreen, fromMetering, successorOf, nextInterval};
+use timings::Timings;
 use wanted::Wish;
 
-// The times of the intervals, in ticks.
-pub struct Times {
-    // of pre-metering green
-    pub shortest: u16,
-    pub longest: u32,
-    // of startup
-    pub warning: u16,
-    pub green: u16,
-    pub yellow: u16,
-    pub red: u16,
-    // of shutdown red
-    pub shutdown: u16,
-}
+// The group's intervals.
+pub const INITIALIZATION: u16 = 0;
+
+pub const DARK: u16 = 1;
+
+pub const PRE_GREEN: u16 = 2;
+
+pub const WARNING: u16 = 3;
+
+pub const STARTUP_GREEN: u16 = 4;
+
+pub const STARTUP_YELLOW: u16 = 5;
+
+pub const STARTUP_RED: u16 = 6;
+
+pub const METERING: u16 = 7;
+
+pub const CLOSING: u16 = 8;
+
+pub const SHUTDOWN_RED: u16 = 9;
 
 // Where the age of an interval stops.
 pub const OLDEST: u16 = 36000;
 
-// In ticks.
-const INITIALIZATION: u16 = 50;
+// How long initialization lasts.
+const INITIALIZATION_TICKS: u16 = 50;
+
+const TICKS_OF_A_MINUTE: u32 = 600;
 
 // One tick older, to 36000 at most.
 pub fn older(age: u16) -> u16
@@ -31,20 +42,20 @@ pub fn older(age: u16) -> u16
 }
 
 // The time that an interval runs at least.
-fn time_of(t: Times, interval: u16) -> u16
+fn time_of(t: Timings, interval: u16) -> u16
     ensures { λ r. ⌜ r ≡ timeOf t interval ⌝ }
 {
     match interval {
-        0 => INITIALIZATION,
-        1 => 0,
-        2 => t.shortest,
-        3 => t.warning,
-        4 => t.green,
-        5 => t.yellow,
-        6 => t.red,
-        7 => 0,
-        8 => 0,
-        9 => t.shutdown,
+        INITIALIZATION => INITIALIZATION_TICKS,
+        DARK => 0,
+        PRE_GREEN => t.minpregreen,
+        WARNING => t.warning,
+        STARTUP_GREEN => t.startgreen,
+        STARTUP_YELLOW => t.startyellow,
+        STARTUP_RED => t.startred,
+        METERING => 0,
+        CLOSING => 0,
+        SHUTDOWN_RED => t.shutdown,
         _ => 0,
     }
 }
@@ -54,10 +65,10 @@ fn from_dark(wish: Wish) -> u16
     ensures { λ r. ⌜ r ≡ fromDark wish ⌝ }
 {
     match wish {
-        Wish::Dark => 1,
-        Wish::Green => 2,
-        Wish::Metering(_) => 2,
-        Wish::Clear => 1,
+        Wish::Dark => DARK,
+        Wish::Green => PRE_GREEN,
+        Wish::Metering(_) => PRE_GREEN,
+        Wish::Clear => DARK,
     }
 }
 
@@ -66,10 +77,10 @@ fn from_green(wish: Wish, over: bool) -> u16
     ensures { λ r. ⌜ r ≡ fromGreen wish over ⌝ }
 {
     match wish {
-        Wish::Dark => 1,
-        Wish::Green => 2,
-        Wish::Metering(_) => 3,
-        Wish::Clear => { if over { 1 } else { 2 } }
+        Wish::Dark => DARK,
+        Wish::Green => PRE_GREEN,
+        Wish::Metering(_) => WARNING,
+        Wish::Clear => { if over { DARK } else { PRE_GREEN } }
     }
 }
 
@@ -78,34 +89,41 @@ fn from_metering(wish: Wish) -> u16
     ensures { λ r. ⌜ r ≡ fromMetering wish ⌝ }
 {
     match wish {
-        Wish::Dark => 8,
-        Wish::Green => 8,
-        Wish::Metering(_) => 7,
-        Wish::Clear => 8,
+        Wish::Dark => CLOSING,
+        Wish::Green => CLOSING,
+        Wish::Metering(_) => METERING,
+        Wish::Clear => CLOSING,
     }
 }
 
+// Minutes in ticks.
+fn minutes(x: u16) -> u32
+    ensures { λ r. ⌜ r ≡ 600 * x ⌝ }
+{
+    TICKS_OF_A_MINUTE * (x as u32)
+}
+
 // Where an interval leads once its time is up; red: all lanes are.
-fn successor(t: Times, wish: Wish, age: u16, red: bool, interval: u16) -> u16
+fn successor(t: Timings, wish: Wish, age: u16, red: bool, interval: u16) -> u16
     ensures { λ r. ⌜ r ≡ successorOf t wish age red interval ⌝ }
 {
     match interval {
-        0 => 1,
-        1 => from_dark(wish),
-        2 => from_green(wish, t.longest <= age as u32),
-        3 => 4,
-        4 => 5,
-        5 => 6,
-        6 => 7,
-        7 => from_metering(wish),
-        8 => { if red { 9 } else { 8 } }
-        9 => 2,
+        INITIALIZATION => DARK,
+        DARK => from_dark(wish),
+        PRE_GREEN => from_green(wish, minutes(t.maxpregreen) <= age as u32),
+        WARNING => STARTUP_GREEN,
+        STARTUP_GREEN => STARTUP_YELLOW,
+        STARTUP_YELLOW => STARTUP_RED,
+        STARTUP_RED => METERING,
+        METERING => from_metering(wish),
+        CLOSING => { if red { SHUTDOWN_RED } else { CLOSING } }
+        SHUTDOWN_RED => PRE_GREEN,
         _ => interval,
     }
 }
 
 // The interval after a tick, at this age.
-pub fn next(t: Times, wish: Wish, age: u16, red: bool, interval: u16) -> u16
+pub fn next(t: Timings, wish: Wish, age: u16, red: bool, interval: u16) -> u16
     ensures { λ r. ⌜ r ≡ nextInterval t wish age red interval ⌝ }
 {
     if age < time_of(t, interval) {

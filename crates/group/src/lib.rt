@@ -9,17 +9,13 @@ pub use indication::Indications;
 pub use indication::all_dark;
 pub use indication::shown;
 use inputs::Metered;
-pub use interval::Times;
+pub use interval::CLOSING;
+pub use interval::METERING;
 use lanes::Lanes;
 use lanes::RED;
-use lanes::Timings;
 pub use range::group_spoilt;
+use timings::Timings;
 use wanted::Wish;
-
-// The intervals in which lanes show their own colours.
-pub const METERING: u16 = 7;
-
-pub const CLOSING: u16 = 8;
 
 // The group's interval with its age, and its lanes.
 pub struct Group {
@@ -50,12 +46,12 @@ fn all_red(s: Lanes, n: u16) -> bool
 }
 
 // The interval after a tick.
-fn interval_of(times: Times, t: Timings, wish: Wish, g: Group) -> u16
-    ensures { λ r. ⌜ r ≡ intervalOf times t wish g ⌝ }
+fn interval_of(t: Timings, wish: Wish, g: Group) -> u16
+    ensures { λ r. ⌜ r ≡ intervalOf t wish g ⌝ }
 {
     let s = g.lanes;
     let red = all_red(s, t.lanes);
-    interval::next(times, wish, interval::older(g.age), red, g.interval)
+    interval::next(t, wish, interval::older(g.age), red, g.interval)
 }
 
 // The lanes after a tick from one interval to another, none released.
@@ -103,10 +99,10 @@ fn group_of(g: Group, now: u16, s: Lanes) -> Group
 }
 
 // The group one tick later, under a wish with its cycle.
-pub fn tick(times: Times, t: Timings, wish: Wish, cycle: u16, samples: Metered, g: Group) -> Moved
-    ensures { λ r. ⌜ r ≡ movedOf times t wish cycle samples g ⌝ }
+pub fn tick(t: Timings, wish: Wish, cycle: u16, samples: Metered, g: Group) -> Moved
+    ensures { λ r. ⌜ r ≡ movedOf t wish cycle samples g ⌝ }
 {
-    let now = interval_of(times, t, wish, g);
+    let now = interval_of(t, wish, g);
     let standing = g.lanes;
     let passage = samples.passage;
     let s = lanes_in(t, passage, g.interval, now, standing);

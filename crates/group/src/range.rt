@@ -8,6 +8,7 @@ use crate::CLOSING;
 use crate::Group;
 use crate::METERING;
 use crate::interval::OLDEST;
+use crate::interval::SHUTDOWN_RED;
 use lanes::GREEN;
 use lanes::LONGEST;
 use lanes::Lane;
@@ -109,7 +110,7 @@ fn lanes_spoilt(interval: u16, s: Lanes, n: u16) -> bool
 pub fn group_spoilt(g: Group, n: u16) -> bool
     ensures { λ r. ⌜ r ≡ groupSpoilt g n ⌝ }
 {
-    if 9 < g.interval {
+    if SHUTDOWN_RED < g.interval {
         return true;
     }
     if OLDEST < g.age {

@@ -8,7 +8,7 @@ use borrow.Author.Tests.{ltb-true, ltb-false, leb-true, leb-false, eqb-true, lt-
 use lib.Dec.{ltb, leb, eqb}
 use lib.ListN.{getD}
 use Rattle.loops.proofs.AnyLaws.{neither}
-use Rattle.lanes.specs.declared.Timings.{Timings}
+use Rattle.timings.specs.declared.Timings.{Timings}
 use Rattle.lanes.specs.declared.Lane.{Lane}
 use Rattle.lanes.specs.declared.Lanes.{Lanes}
 use Rattle.lanes.specs.Intervals.{lane, riseOf, passagesOf, greenEnds, greenAt, yellowAt, laneTick}

@@ -5,8 +5,8 @@ use crate::GREEN;
 use crate::LONGEST;
 use crate::Lane;
 use crate::RED;
-use crate::Timings;
 use crate::YELLOW;
+use timings::Timings;
 
 // One more, to 720 at most.
 pub fn rise(x: u16) -> u16

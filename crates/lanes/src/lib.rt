@@ -2,6 +2,7 @@
 mod interval;
 
 ghost use mathlib.Core.Path.{_≡_};
+use timings::Timings;
 ghost use Rattle.lanes.specs.Lanes.{laneOf, lanesOf, laneTickAt, lanesTick, laneEntered, lanesEntered};
 
 // A lane's colours; a lane that the site lacks has none.
@@ -13,19 +14,6 @@ pub const GREEN: u16 = 3;
 
 // Where ages and counters of the lanes stop.
 pub const LONGEST: u16 = 720;
-
-// The timings that lanes in metering go by; times in ticks.
-pub struct Timings {
-    pub lanes: u16,
-    // 0 mutual exclusion, 1 fractional offset
-    pub mode: u16,
-    // per green
-    pub vehicles: u16,
-    pub mingreen: u16,
-    pub maxgreen: u16,
-    pub yellow: u16,
-    pub minred: u16,
-}
 
 // One lane: its colour and that colour's age, the ticks since its last green began, and the passages
 // of that green.

@@ -8,7 +8,8 @@ use lib.Dec.{eqb}
 use lib.ListN.{getD}
 use Rattle.numbers.specs.Words.{bytes}
 use Rattle.site.specs.declared.Site.{Site}
-use Rattle.site.specs.Record.{meteredLanes, mainlineLanes, spoiltSite}
+use Rattle.site.specs.Record.{spoiltSite}
+use Rattle.site.specs.Named.{meteredLanes, mainlineLanes, shapeOf}
 use Rattle.period.specs.declared.Counts.{Counts}
 use Rattle.period.specs.declared.Periods.{Periods}
 use Rattle.period.specs.Counts.{laneOf, goodOf}
@@ -39,4 +40,4 @@ pollOf x s = bytes (pollWords (s .periods) (meteredLanes x) (mainlineLanes x))
 -- "A poll record checks 14, 13, 12, 11": these are the first three.
 unfoldable pub refusalOf : Site → State → ℕ
 refusalOf x s =
-    cond (spoiltSite x) 14 (cond (stateSpoilt s (meteredLanes x) (mainlineLanes x)) 13 (cond (eqb (s .periods .serial) 0) 12 0))
+    cond (spoiltSite x) 14 (cond (stateSpoilt s (shapeOf x)) 13 (cond (eqb (s .periods .serial) 0) 12 0))

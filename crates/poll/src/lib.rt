@@ -90,7 +90,7 @@ fn refusal(site: Site, state: State) -> u8
     if site::spoilt(site) {
         return site::SPOILT_SITE;
     }
-    if state::spoilt(state, site.timings[0], site.timings[14]) {
+    if state::spoilt(state, site::shape_of(site)) {
         return state::SPOILT_STATE;
     }
     if state.periods.serial == 0 {
@@ -108,8 +108,9 @@ pub fn poll(site: Site, state: State, out: &mut [u8]) -> Written
     if refused != 0 {
         return output::refused_write(refused);
     }
-    let n = site.timings[0];
-    let m = site.timings[14];
+    let shape = site::shape_of(site);
+    let n = shape.lanes;
+    let m = shape.mainline;
     let size = record_size(n, m);
     if out.len() < size {
         return output::refused_write(output::SMALL_BUFFER);

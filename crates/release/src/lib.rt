@@ -10,7 +10,7 @@ use lanes::GREEN;
 use lanes::Lane;
 use lanes::Lanes;
 use lanes::RED;
-use lanes::Timings;
+use timings::Timings;
 
 // Whether a lane is ready: red at least the minimum, in demand, a cycle from its last green's start.
 fn is_ready(t: Timings, cycle: u16, demand: u16, l: Lane) -> bool

@@ -74,7 +74,8 @@ fn put_poll(site: Site, state: State, out: &mut [u8], at: usize) -> usize {
 
 // A tick's line, and the poll's where the tick completed a period.
 fn put_answer(site: Site, number: u64, ticked: Ticked, out: &mut [u8], at: usize) -> usize {
-    let end = tick_text::put_tick(out, at, number, site.timings[0], ticked);
+    let shape = site::shape_of(site);
+    let end = tick_text::put_tick(out, at, number, shape.lanes, ticked);
     if ticked.refusal != 0 {
         return end;
     }
@@ -90,7 +91,8 @@ fn end_line(site: Site, run: Run, out: &mut [u8]) -> Run {
     let number = std::num::wrapping_add_u64(run.lines, 1);
     let scan = run.scan;
     let before = run.state;
-    let read = tick_line::read(scan, site.timings[0], site.timings[14]);
+    let shape = site::shape_of(site);
+    let read = tick_line::read(scan, shape.lanes, shape.mainline);
     if !read.good {
         return Run {
             state: before,

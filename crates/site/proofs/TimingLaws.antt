@@ -9,23 +9,25 @@ use Rattle.ranges.specs.declared.Section.the-variants.{Timings}
 use Rattle.ranges.specs.Ranges.{isWithin, timingRange}
 use Rattle.ranges.specs.Sections.{rangeOf, mayBeUnused}
 use Rattle.ranges.proofs.RangeLaws.{ends}
+use Rattle.timings.specs.declared.Timings.{Timings as NamedTimings}
 use Rattle.site.specs.declared.Site.{Site}
 use Rattle.site.specs.Record.{spoiltSite}
+use Rattle.site.specs.Named.{timingsOf}
 use Rattle.site.proofs.SpoiltLaws.{sound-site, number-within}
 
--- Maximum green, timing 4, is no shorter than minimum green, timing 3.
-pub record TimingsGood (x : Site) : Type 0 where
-  pub lanes-least : 1 ≤ getD (x .timings) 0 0
-  pub lanes-most : getD (x .timings) 0 0 ≤ 4
-  pub vehicles-least : 1 ≤ getD (x .timings) 2 0
-  pub vehicles-most : getD (x .timings) 2 0 ≤ 3
-  pub green-least : 10 ≤ getD (x .timings) 4 0
-  pub green-most : getD (x .timings) 4 0 ≤ 100
-  pub yellow-least : 10 ≤ getD (x .timings) 5 0
-  pub yellow-most : getD (x .timings) 5 0 ≤ 60
-  pub red-least : 10 ≤ getD (x .timings) 6 0
-  pub red-most : getD (x .timings) 6 0 ≤ 100
-  pub mainline-most : getD (x .timings) 14 0 ≤ 6
+-- Maximum green is no shorter than minimum green.
+pub record TimingsGood (t : NamedTimings) : Type 0 where
+  pub lanes-least : 1 ≤ t .lanes
+  pub lanes-most : t .lanes ≤ 4
+  pub vehicles-least : 1 ≤ t .vehicles
+  pub vehicles-most : t .vehicles ≤ 3
+  pub green-least : 10 ≤ t .maxgreen
+  pub green-most : t .maxgreen ≤ 100
+  pub yellow-least : 10 ≤ t .yellow
+  pub yellow-most : t .yellow ≤ 60
+  pub red-least : 10 ≤ t .minred
+  pub red-most : t .minred ≤ 100
+  pub mainline-most : t .mainline ≤ 6
 
 module _ (x : Site) (ok : spoiltSite x ≡ false) where
   abbrev timing : ℕ → ℕ
@@ -39,8 +41,8 @@ module _ (x : Site) (ok : spoiltSite x ≡ false) where
   ends-of : (i : ℕ) → i < 15 → (timingRange (timing 3) i .low ≤ timing i) × (timing i ≤ timingRange (timing 3) i .high)
   ends-of i h = ends (timingRange (timing 3) i) (timing i) (timing-within i h)
 
-  pub timings-good : TimingsGood x
-  unfolding timingRange
+  pub timings-good : TimingsGood (timingsOf x)
+  unfolding timingRange timingsOf
   timings-good =
       let lanes = ends-of 0 (omega arith) in
       let vehicles = ends-of 2 (omega arith) in
@@ -60,9 +62,3 @@ module _ (x : Site) (ok : spoiltSite x ≡ false) where
         red-most = red .1;
         mainline-most = ends-of 14 (omega arith) .1;
       }
-
-  pub most-metered : getD (x .timings) 0 0 ≤ 4
-  most-metered = timings-good .lanes-most
-
-  pub most-mainline : getD (x .timings) 14 0 ≤ 6
-  most-mainline = timings-good .mainline-most

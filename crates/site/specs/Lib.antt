@@ -1,3 +1,4 @@
 pub mod Record
+pub mod Named
 pub mod Reading
 pub mod Writing

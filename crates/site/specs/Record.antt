@@ -6,18 +6,11 @@ use Prim.Native.Nat.{ℕ}
 use mathlib.Core.Bool.{Bool, not, _||_}
 use mathlib.Core.List.{List}
 use lib.Dec.{ltb}
-use lib.ListN.{length, getD, take, drop}
+use lib.ListN.{length, take, drop}
 use Rattle.ranges.specs.declared.Section.{Section}
 use Rattle.ranges.specs.declared.Section.the-variants.{Timings, Entries, Holidays, Levels}
 use Rattle.ranges.specs.Sections.{allowedOf, sizeOf, firstBad, zeros}
 use Rattle.site.specs.declared.Site.{Site}
-
--- A site's n metered and m mainline lanes.
-abbrev pub meteredLanes : Site → ℕ
-meteredLanes x = getD (x .timings) 0 0
-
-abbrev pub mainlineLanes : Site → ℕ
-mainlineLanes x = getD (x .timings) 14 0
 
 -- Of a section kept as the count n and the numbers v: the count is not allowed, a number is not, or what is beyond is not 0.
 unfoldable pub spoiltOf : Section → ℕ → List ℕ → Bool

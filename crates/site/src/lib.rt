@@ -4,7 +4,10 @@ ghost use Prim.Native.Nat.{_≤_};
 ghost use lib.ListN.{length};
 ghost use Rattle.ranges.specs.Sections.{mostOf};
 ghost use Rattle.site.specs.Record.{spoiltOf, spoiltSite};
+ghost use Rattle.site.specs.Named.{timingsOf, shapeOf};
 use ranges::Section;
+use timings::Shape;
+use timings::Timings;
 
 // All of a site file. A section's rows stand one behind the other; those beyond its count are 0.
 pub struct Site {
@@ -38,6 +41,40 @@ pub struct Found {
 
 // A site record that no file could give.
 pub const SPOILT_SITE: u8 = 14;
+
+// A site's timings by name.
+pub fn timings_of(site: Site) -> Timings
+    ensures { λ r. ⌜ r ≡ timingsOf site ⌝ }
+{
+    Timings {
+        lanes: site.timings[0],
+        mode: site.timings[1],
+        vehicles: site.timings[2],
+        mingreen: site.timings[3],
+        maxgreen: site.timings[4],
+        yellow: site.timings[5],
+        minred: site.timings[6],
+        warning: site.timings[7],
+        startgreen: site.timings[8],
+        startyellow: site.timings[9],
+        startred: site.timings[10],
+        shutdown: site.timings[11],
+        maxpregreen: site.timings[12],
+        minpregreen: site.timings[13],
+        mainline: site.timings[14],
+    }
+}
+
+// What a state at this site must fit.
+pub fn shape_of(site: Site) -> Shape
+    ensures { λ r. ⌜ r ≡ shapeOf site ⌝ }
+{
+    let t = timings_of(site);
+    Shape {
+        lanes: t.lanes,
+        mainline: t.mainline,
+    }
+}
 
 // Whether these are no section's count and numbers, with 0 after them.
 fn spoilt_section(section: Section, count: u16, v: &[u16]) -> bool

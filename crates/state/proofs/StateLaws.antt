@@ -4,6 +4,7 @@ use mathlib.Core.Path.{_≡_}
 use mathlib.Core.Bool.{false}
 use native.Mathlib.Omega.{arith}
 use Rattle.loops.proofs.AnyLaws.{neither}
+use Rattle.timings.specs.declared.Shape.{Shape}
 use Rattle.group.specs.Range.{groupSpoilt}
 use Rattle.group.proofs.RangeLaws.{GroupGood, group-good, good-group, lanes-enter}
 use Rattle.period.specs.Range.{periodsSpoilt}
@@ -11,23 +12,23 @@ use Rattle.period.proofs.RangeLaws.{PeriodsGood, periods-good, good-periods, no
 use Rattle.state.specs.declared.State.{State}
 use Rattle.state.specs.State.{stateSpoilt, freshState}
 
-pub record StateGood (s : State) (n m : ℕ) : Type 0 where
-  pub group : GroupGood (s .group) n
-  pub periods : PeriodsGood (s .periods) n m
+pub record StateGood (s : State) (h : Shape) : Type 0 where
+  pub group : GroupGood (s .group) (h .lanes)
+  pub periods : PeriodsGood (s .periods) (h .lanes) (h .mainline)
 
-pub state-good : (s : State) (n m : ℕ) → stateSpoilt s n m ≡ false → StateGood s n m
+pub state-good : (s : State) (h : Shape) → stateSpoilt s h ≡ false → StateGood s h
 unfolding stateSpoilt
-state-good s n m e =
-    let p = neither (groupSpoilt (s .group) n) (periodsSpoilt (s .periods) n m) e in
-    record { group = group-good (s .group) n (p .0); periods = periods-good (s .periods) n m (p .1) }
+state-good s h e =
+    let p = neither (groupSpoilt (s .group) (h .lanes)) (periodsSpoilt (s .periods) (h .lanes) (h .mainline)) e in
+    record { group = group-good (s .group) (h .lanes) (p .0); periods = periods-good (s .periods) (h .lanes) (h .mainline) (p .1) }
 
-pub good-state : (s : State) (n m : ℕ) → StateGood s n m → stateSpoilt s n m ≡ false
+pub good-state : (s : State) (h : Shape) → StateGood s h → stateSpoilt s h ≡ false
 unfolding stateSpoilt
-good-state s n m g = rw (good-group (s .group) n (g .group), good-periods (s .periods) n m (g .periods))
+good-state s h g = rw (good-group (s .group) (h .lanes) (g .group), good-periods (s .periods) (h .lanes) (h .mainline) (g .periods))
 
-pub fresh-good : (n m : ℕ) → 1 ≤ n → StateGood (freshState n) n m
+pub fresh-good : (h : Shape) → 1 ≤ h .lanes → StateGood (freshState (h .lanes)) h
 unfolding freshState
-fresh-good n m h = record {
-  group = record { interval = omega arith; age = omega arith; lanes = lanes-enter _ n h };
-  periods = no-periods-good n m;
+fresh-good h least = record {
+  group = record { interval = omega arith; age = omega arith; lanes = lanes-enter _ (h .lanes) least };
+  periods = no-periods-good (h .lanes) (h .mainline);
 }

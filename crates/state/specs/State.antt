@@ -2,15 +2,16 @@
 use Prim.Native.Nat.{ℕ}
 use mathlib.Core.Bool.{Bool, _||_}
 use lib.ListN.{replicate}
+use Rattle.timings.specs.declared.Shape.{Shape}
 use Rattle.lanes.specs.Lanes.{lanesEntered}
 use Rattle.group.specs.Range.{groupSpoilt}
 use Rattle.period.specs.Range.{periodsSpoilt}
 use Rattle.period.specs.Counts.{noPeriods}
 use Rattle.state.specs.declared.State.{State}
 
--- 13, at a site of n metered and m mainline lanes.
-unfoldable pub stateSpoilt : State → ℕ → ℕ → Bool
-stateSpoilt s n m = groupSpoilt (s .group) n || periodsSpoilt (s .periods) n m
+-- 13, at a site of this shape.
+unfoldable pub stateSpoilt : State → Shape → Bool
+stateSpoilt s h = groupSpoilt (s .group) (h .lanes) || periodsSpoilt (s .periods) (h .lanes) (h .mainline)
 
 -- "Power-up begins 0 at age 0, lanes as on entering 7, all counts and the serial 0."
 unfoldable pub freshState : ℕ → State

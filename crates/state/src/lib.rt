@@ -4,6 +4,7 @@ ghost use Rattle.state.specs.State.{stateSpoilt, freshState, zeroState};
 use group::Group;
 use lanes::Lanes;
 use period::Periods;
+use timings::Shape;
 
 pub struct State {
     pub group: Group,
@@ -13,16 +14,16 @@ pub struct State {
 // A state outside its ranges.
 pub const SPOILT_STATE: u8 = 13;
 
-// Whether a state is outside its ranges, at a site of n metered and m mainline lanes.
-pub fn spoilt(s: State, n: u16, m: u16) -> bool
-    ensures { λ r. ⌜ r ≡ stateSpoilt s n m ⌝ }
+// Whether a state is outside its ranges, at a site of this shape.
+pub fn spoilt(s: State, shape: Shape) -> bool
+    ensures { λ r. ⌜ r ≡ stateSpoilt s shape ⌝ }
 {
     let group = s.group;
-    if group::group_spoilt(group, n) {
+    if group::group_spoilt(group, shape.lanes) {
         return true;
     }
     let periods = s.periods;
-    period::periods_spoilt(periods, n, m)
+    period::periods_spoilt(periods, shape.lanes, shape.mainline)
 }
 
 // The state at power-up, at a site of n metered lanes.

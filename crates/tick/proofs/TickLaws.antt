@@ -4,7 +4,8 @@ use mathlib.Core.Path.{_≡_, refl}
 use mathlib.Core.Bool.{Bool, true, false, cond}
 use native.Mathlib.Omega.{arith}
 use Rattle.site.specs.declared.Site.{Site}
-use Rattle.site.specs.Record.{meteredLanes, mainlineLanes, spoiltSite}
+use Rattle.site.specs.Record.{spoiltSite}
+use Rattle.site.specs.Named.{timingsOf, meteredLanes, mainlineLanes, shapeOf}
 use Rattle.site.proofs.TimingLaws.{timings-good}
 use Rattle.calendar.specs.Clock.{clockBad}
 use Rattle.inputs.specs.Samples.{samplesBad}
@@ -23,13 +24,12 @@ use Rattle.state.specs.State.{stateSpoilt}
 use Rattle.state.proofs.StateLaws.{StateGood, state-good}
 use Rattle.waiting.proofs.LaneRank.{Sound}
 use Rattle.tick.specs.declared.Input.{Input}
-use Rattle.tick.specs.Timings.{timingsOf, timesOf}
 use Rattle.tick.specs.Checks.{inputRefusal, tickRefusal}
 use Rattle.tick.specs.Tick.{countedIn, decidedIn, cycleIn, movedIn, acceptedTick}
 
 pub record Accepted (x : Site) (s : State) (i : Input) : Type 0 where
   pub site : spoiltSite x ≡ false
-  pub state : stateSpoilt s (meteredLanes x) (mainlineLanes x) ≡ false
+  pub state : stateSpoilt s (shapeOf x) ≡ false
   pub clock : clockBad (i .clock) ≡ false
   pub samples : samplesBad (i .lanes) (i .main) (meteredLanes x) (mainlineLanes x) ≡ false
   pub commands : commandsBad (i .manual) (i .centre) ≡ false
@@ -43,7 +43,7 @@ pub accepted : (x : Site) (s : State) (i : Input) → tickRefusal x s i ≡ 0 �
 unfolding tickRefusal inputRefusal
 accepted x s i e =
     let p = passes (spoiltSite x) 14 _ (omega arith) e in
-    let q = passes (stateSpoilt s (meteredLanes x) (mainlineLanes x)) 13 _ (omega arith) (p .1) in
+    let q = passes (stateSpoilt s (shapeOf x)) 13 _ (omega arith) (p .1) in
     let r = passes (clockBad (i .clock)) 8 _ (omega arith) (q .1) in
     let u = passes (samplesBad (i .lanes) (i .main) (meteredLanes x) (mainlineLanes x)) 9 _ (omega arith) (r .1) in
     let v = passes (commandsBad (i .manual) (i .centre)) 10 0 (omega arith) (u .1) in
@@ -51,7 +51,6 @@ accepted x s i e =
 
 -- The timings of a site that is not spoilt.
 pub sound-timings : (x : Site) → spoiltSite x ≡ false → Sound (timingsOf x)
-unfolding timingsOf
 sound-timings x ok =
     let g = timings-good x ok in
     record {
@@ -78,7 +77,7 @@ module _ (x : Site) (s : State) (i : Input) (a : Accepted x s i) where
 
   -- Its cycle is 720 ticks at the most, and some where metering goes on.
   pub cycle-in : cycleIn x s i ≤ 720
-  unfolding cycleIn timingsOf
+  unfolding cycleIn
   cycle-in =
       let g = timings-good x (a .site) in
       let vehicles = timingsOf x .vehicles in
@@ -86,19 +85,19 @@ module _ (x : Site) (s : State) (i : Input) (a : Accepted x s i) where
       (λ r h. cycle-most vehicles r (g .vehicles-most) h)
 
   pub some-cycle : fromMetering (decidedIn x s i .wish) ≡ 7 → 1 ≤ cycleIn x s i
-  unfolding cycleIn timingsOf
+  unfolding cycleIn
   some-cycle e = metering-cycle (decidedIn x s i .wish) wish-in (timingsOf x .vehicles) (timings-good x (a .site) .vehicles-least) e
 
-  pub tick-keeps : StateGood (acceptedTick x s i .state) (meteredLanes x) (mainlineLanes x)
-  unfolding acceptedTick movedIn countedIn timingsOf
+  pub tick-keeps : StateGood (acceptedTick x s i .state) (shapeOf x)
+  unfolding acceptedTick movedIn countedIn
   tick-keeps =
       let n = meteredLanes x in
       let m = mainlineLanes x in
-      let g = state-good s n m (a .state) in
+      let g = state-good s (shapeOf x) (a .state) in
       let h = timings-good x (a .site) .lanes-least in
       let wish = decidedIn x s i .wish in
       record {
-        group = moved-good (timesOf x) (timingsOf x) wish (cycleIn x s i) (i .lanes) (s .group) h (g .group);
+        group = moved-good (timingsOf x) wish (cycleIn x s i) (i .lanes) (s .group) h (g .group);
         periods = periods-released (s .periods) (i .lanes) (i .main) n m _ (g .periods) (a .samples)
-            (moved-released (timesOf x) (timingsOf x) wish (cycleIn x s i) (i .lanes) (s .group) h (g .group));
+            (moved-released (timingsOf x) wish (cycleIn x s i) (i .lanes) (s .group) h (g .group));
       }

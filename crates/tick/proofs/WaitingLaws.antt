@@ -10,9 +10,10 @@ use borrow.Author.Tests.{eqb-true, eq-eqb}
 use lib.Dec.{eqb}
 use lib.ListN.{getD}
 use Rattle.site.specs.declared.Site.{Site}
-use Rattle.site.specs.Record.{meteredLanes, mainlineLanes, spoiltSite}
+use Rattle.site.specs.Record.{spoiltSite}
+use Rattle.site.specs.Named.{timingsOf, meteredLanes, shapeOf}
 use Rattle.site.proofs.TimingLaws.{timings-good}
-use Rattle.lanes.specs.declared.Timings.{Timings}
+use Rattle.timings.specs.declared.Timings.{Timings}
 use Rattle.lanes.proofs.LaneLaws.{by-test}
 use Rattle.release.proofs.CycleLaws.{up-grows}
 use Rattle.group.specs.declared.Group.{Group}
@@ -28,7 +29,6 @@ use Rattle.waiting.proofs.Chain.{Chain, chain-enter, chain-moved}
 use Rattle.waiting.proofs.GroupRank.{groupRank, group-rank-most, group-falls, shown-red, shown-green}
 use Rattle.tick.specs.declared.Input.{Input}
 use Rattle.tick.specs.declared.Ticked.{Ticked}
-use Rattle.tick.specs.Timings.{timingsOf, timesOf}
 use Rattle.tick.specs.Checks.{tickRefusal}
 use Rattle.tick.specs.Tick.{powerUpOf, decidedIn, cycleIn, movedIn, acceptedTick, refusedTick, tickOf}
 use Rattle.tick.specs.Waiting.{Call, Course, atPowerUp, answerTo, isAccepted, onward, courseAfter, AtAccepted, acceptedTicks, Waits, greenBegins, beginsWithin, WaitingBound}
@@ -97,15 +97,14 @@ module _ (x : Site) (ok : spoiltSite x ≡ false) where
 
   -- What holds since power-up. Once the group is in metering, the lamps last shown are those of the state.
   record Going (c : Course) : Type 0 where
-    good : StateGood (c .state) (meteredLanes x) (mainlineLanes x)
+    good : StateGood (c .state) (shapeOf x)
     chain : Chain (timingsOf x) (c .state .group .lanes)
     lamps : c .state .group .interval ≡ 7 → c .shown ≡ indicationsOf (c .state .group) (meteredLanes x)
 
   start : Going (atPowerUp x)
-  unfolding atPowerUp powerUpOf freshState timingsOf
+  unfolding atPowerUp powerUpOf freshState
   start =
-      let n = meteredLanes x in
-      let g = fresh-good n (mainlineLanes x) (timings-good x ok .lanes-least) in
+      let g = fresh-good (shapeOf x) (timings-good x ok .lanes-least) in
       rw ok (record { good = g; chain = chain-enter (timingsOf x) sound; lamps = λ z. absurd (omega arith) })
 
   module _ (c : Course) (call : Call) (going : Going c) (same : isAccepted c call ≡ true → call .site ≡ x) where
@@ -128,13 +127,13 @@ module _ (x : Site) (ok : spoiltSite x ≡ false) where
     onward-is e = rw (e, answer e)
 
     moved-on : Accepted x (c .state) (call .input) → Going next
-    unfolding acceptedTick movedIn timingsOf
+    unfolding acceptedTick movedIn
     moved-on a =
         let s = c .state in
         let i = call .input in
         record {
           good = tick-keeps x s i a;
-          chain = chain-moved (timingsOf x) sound (timesOf x) (decidedIn x s i .wish) (cycleIn x s i) (i .lanes) (s .group) (going .good .group) (going .chain);
+          chain = chain-moved (timingsOf x) sound (decidedIn x s i .wish) (cycleIn x s i) (i .lanes) (s .group) (going .good .group) (going .chain);
           lamps = λ _. refl;
         }
 
@@ -160,7 +159,6 @@ module _ (x : Site) (ok : spoiltSite x ≡ false) where
       i = call .input
 
       in-site : j < timingsOf x .lanes
-      unfolding timingsOf
       in-site = hj
 
       released-is : isAccepted c call ≡ true → answerTo c call .released ≡ movedIn x s i .released
@@ -186,22 +184,22 @@ module _ (x : Site) (ok : spoiltSite x ≡ false) where
 
       -- A tick that does not release the lane brings it nearer;
       rank-falls : (e : isAccepted c call ≡ true) → eqb (movedIn x s i .released) (j + 1) ≡ false → rank (onward c call) < rank c
-      unfolding movedIn timingsOf
+      unfolding movedIn
       rank-falls e miss =
           rw (group-is e)
-          (group-falls (timingsOf x) sound least j in-site (timesOf x) (decidedIn x s i .wish) (cycleIn x s i) (i .lanes) (s .group) (going .good .group) (going .chain)
+          (group-falls (timingsOf x) sound least j in-site (decidedIn x s i .wish) (cycleIn x s i) (i .lanes) (s .group) (going .good .group) (going .chain)
           (omega arith) (some-cycle x s i (passed e)) (cycle-small e) (demand-on e) (metering-after e) miss)
 
       -- and at one that does, its green begins.
       begins : (e : isAccepted c call ≡ true) → eqb (movedIn x s i .released) (j + 1) ≡ true → greenBegins (j + 1) c call ≡ true
-      unfolding greenBegins acceptedTick movedIn timingsOf
+      unfolding greenBegins acceptedTick movedIn
       begins e hit =
           let back : j + 1 - 1 ≡ j = omega arith in
           let place : j < 4 = omega (arith, timings-good x ok .lanes-most) in
           let n = meteredLanes x in
           let g = movedIn x s i .group in
-          let before = shown-red (timingsOf x) sound least j in-site (timesOf x) (decidedIn x s i .wish) (cycleIn x s i) (i .lanes) (s .group) (going .good .group) (going .chain) hit in
-          let after = shown-green (timingsOf x) sound least j in-site (timesOf x) (decidedIn x s i .wish) (cycleIn x s i) (i .lanes) (s .group) (going .good .group) (going .chain) hit in
+          let before = shown-red (timingsOf x) sound least j in-site (decidedIn x s i .wish) (cycleIn x s i) (i .lanes) (s .group) (going .good .group) (going .chain) hit in
+          let after = shown-green (timingsOf x) sound least j in-site (decidedIn x s i .wish) (cycleIn x s i) (i .lanes) (s .group) (going .good .group) (going .chain) hit in
           let red : getD (c .shown .colours) j 0 ≡ 1 =
           ap (λ (d : Indications). getD (d .colours) j 0) (going .lamps (before .0)) ∙ colours-at (s .group) n j place ∙ before .1 in
           let green : getD (answerTo c call .shown .colours) j 0 ≡ 3 =
@@ -243,7 +241,7 @@ module _ (x : Site) (ok : spoiltSite x ≡ false) where
   reached c (call ∷ before) going same = reached (onward c call) before (keeps c call going (same .0)) (same .1)
 
 pub waiting-bound : (x : Site) → WaitingBound x
-unfolding WaitingBound timingsOf
+unfolding WaitingBound
 waiting-bound x ok before run same i most least in-site waiting long =
     let t = timingsOf x in
     let parts = split-run (λ c call. call .site ≡ x) (atPowerUp x) before run same in

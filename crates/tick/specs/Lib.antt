@@ -1,4 +1,3 @@
-pub mod Timings
 pub mod Checks
 pub mod Tick
 pub mod Waiting

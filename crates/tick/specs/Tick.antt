@@ -3,7 +3,8 @@ use Prim.Native.Nat.{ℕ}
 use mathlib.Core.Bool.{cond}
 use lib.Dec.{ltb, eqb}
 use Rattle.site.specs.declared.Site.{Site}
-use Rattle.site.specs.Record.{meteredLanes, mainlineLanes, spoiltSite}
+use Rattle.site.specs.Record.{spoiltSite}
+use Rattle.site.specs.Named.{timingsOf, meteredLanes, mainlineLanes}
 use Rattle.period.specs.declared.Periods.{Periods}
 use Rattle.period.specs.Counting.{afterTick, afterRelease}
 use Rattle.wanted.specs.declared.Decision.{Decision}
@@ -18,7 +19,6 @@ use Rattle.state.specs.State.{freshState, zeroState}
 use Rattle.tick.specs.declared.Input.{Input}
 use Rattle.tick.specs.declared.Ticked.{Ticked}
 use Rattle.tick.specs.declared.PoweredUp.{PoweredUp}
-use Rattle.tick.specs.Timings.{timingsOf, timesOf}
 use Rattle.tick.specs.Checks.{tickRefusal}
 
 -- "Power-up checks 14; refused, it gives an all-zero state."
@@ -38,7 +38,7 @@ unfoldable pub cycleIn : Site → State → Input → ℕ
 cycleIn x s i = cycleTicks (timingsOf x .vehicles) (rateOf (decidedIn x s i .wish))
 
 unfoldable pub movedIn : Site → State → Input → Moved
-movedIn x s i = movedOf (timesOf x) (timingsOf x) (decidedIn x s i .wish) (cycleIn x s i) (i .lanes) (s .group)
+movedIn x s i = movedOf (timingsOf x) (decidedIn x s i .wish) (cycleIn x s i) (i .lanes) (s .group)
 
 unfoldable pub acceptedTick : Site → State → Input → Ticked
 acceptedTick x s i =

@@ -7,14 +7,14 @@ use mathlib.Core.List.{List, [], _∷_, _++_}
 use lib.Dec.{eqb}
 use lib.ListN.{getD}
 use Rattle.site.specs.declared.Site.{Site}
-use Rattle.site.specs.Record.{meteredLanes, spoiltSite}
+use Rattle.site.specs.Record.{spoiltSite}
+use Rattle.site.specs.Named.{timingsOf, meteredLanes}
 use Rattle.group.specs.declared.indication.Indications.{Indications}
 use Rattle.group.specs.Indications.{allDark}
 use Rattle.state.specs.declared.State.{State}
 use Rattle.waiting.specs.Bound.{waitingBound}
 use Rattle.tick.specs.declared.Input.{Input}
 use Rattle.tick.specs.declared.Ticked.{Ticked}
-use Rattle.tick.specs.Timings.{timingsOf}
 use Rattle.tick.specs.Tick.{powerUpOf, tickOf}
 
 -- A tick as it is handed in, with any site and input.

@@ -12,7 +12,7 @@ use Rattle.loops.specs.Any.{anyFrom}
 use Rattle.loops.proofs.AnyLaws.{none-of}
 use Rattle.inputs.specs.declared.Metered.{Metered}
 use Rattle.wanted.specs.declared.wish.Wish.{Wish}
-use Rattle.lanes.specs.declared.Timings.{Timings}
+use Rattle.timings.specs.declared.Timings.{Timings}
 use Rattle.lanes.specs.declared.Lane.{Lane}
 use Rattle.lanes.specs.declared.Lanes.{Lanes}
 use Rattle.lanes.specs.Intervals.{riseOf}
@@ -20,7 +20,6 @@ use Rattle.lanes.specs.Lanes.{laneOf, lanesTick, lanesEntered}
 use Rattle.lanes.proofs.LaneLaws.{by-test, tick-counter, lane-in, offset-ticked, last-ticked, entered-in, offset-entered, last-entered}
 use Rattle.release.specs.Release.{anyGreen, mayRelease, releasedOf, releaseOf}
 use Rattle.release.proofs.ReleaseLaws.{none-released, lane-goes, lane-stays, last-released, offset-released, released-in, may-release}
-use Rattle.group.specs.declared.interval.Times.{Times}
 use Rattle.group.specs.declared.Group.{Group}
 use Rattle.group.specs.Group.{lanesMoved, releasedIn, groupOf, movedWith, movedOf}
 use Rattle.group.proofs.IntervalLaws.{lanes-cases}
@@ -95,15 +94,15 @@ module _ (t : Timings) (ok : Sound t) where
       (λ e. rw (e, none-released s 0 refl) w)
 
   -- A tick of the group keeps it.
-  module _ (times : Times) (wish : Wish) (cycle : ℕ) (samples : Metered) (g : Group) (v : GroupGood g (t .lanes)) (w : Chain t (g .lanes)) where
-    pub chain-lanes : Chain t (lanesMoved times t wish samples g)
+  module _ (wish : Wish) (cycle : ℕ) (samples : Metered) (g : Group) (v : GroupGood g (t .lanes)) (w : Chain t (g .lanes)) where
+    pub chain-lanes : Chain t (lanesMoved t wish samples g)
     chain-lanes =
-        lanes-cases times t wish samples g (v .interval) (λ _ s. Chain t s)
+        lanes-cases t wish samples g (v .interval) (λ _ s. Chain t s)
         (λ _ _. chain-tick _ (g .lanes) (samples .passage) (v .lanes) w)
         (λ _. chain-enter)
         (λ _. chain-tick _ (g .lanes) (samples .passage) (v .lanes) w)
         (λ _ _ _ _. w)
 
-    pub chain-moved : Chain t (movedOf times t wish cycle samples g .group .lanes)
+    pub chain-moved : Chain t (movedOf t wish cycle samples g .group .lanes)
     unfolding movedOf movedWith groupOf
     chain-moved = chain-released _ _ cycle (samples .demand) chain-lanes

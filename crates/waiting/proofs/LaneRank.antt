@@ -5,7 +5,7 @@ use mathlib.Core.Bool.{true, false, cond}
 use native.Mathlib.Omega.{arith}
 use borrow.Author.Tests.{eqb-false, eq-eqb, ne-eqb}
 use lib.Dec.{eqb}
-use Rattle.lanes.specs.declared.Timings.{Timings}
+use Rattle.timings.specs.declared.Timings.{Timings}
 use Rattle.lanes.specs.declared.Lane.{Lane}
 use Rattle.lanes.specs.Intervals.{lane, riseOf, laneTick}
 use Rattle.lanes.proofs.LaneLaws.{by-test, rise-min, tick-cases, tick-counter}

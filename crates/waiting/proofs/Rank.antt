@@ -9,7 +9,7 @@ use borrow.Author.Tests.{leb-true, leb-false, eqb-true, eq-eqb, ne-eqb, le-leb, 
 use lib.Dec.{leb, eqb}
 use lib.ListN.{getD}
 use Rattle.loops.proofs.AnyLaws.{any-of-none}
-use Rattle.lanes.specs.declared.Timings.{Timings}
+use Rattle.timings.specs.declared.Timings.{Timings}
 use Rattle.lanes.specs.declared.Lanes.{Lanes}
 use Rattle.lanes.specs.Intervals.{lane, riseOf, laneTick}
 use Rattle.lanes.specs.Lanes.{laneOf, lanesTick}

@@ -7,7 +7,8 @@ use borrow.Author.Tests.{ltb-false, eqb-true, eqb-false}
 use lib.Dec.{ltb, eqb}
 use Rattle.loops.proofs.AnyLaws.{neither}
 use Rattle.site.specs.declared.Site.{Site}
-use Rattle.site.specs.Record.{spoiltSite, mainlineLanes}
+use Rattle.site.specs.Record.{spoiltSite}
+use Rattle.site.specs.Named.{mainlineLanes}
 use Rattle.site.proofs.RowLaws.{entry-rate-ends, level-rate}
 use Rattle.calendar.specs.declared.clock.Clock.{Clock}
 use Rattle.inputs.specs.declared.Command.{Command}
@@ -22,8 +23,10 @@ use Rattle.levels.specs.Levels.{levelOf, decidingOf}
 use Rattle.levels.proofs.Turns.{deciding-in}
 use Rattle.wanted.specs.declared.wish.Wish.{Wish}
 use Rattle.wanted.specs.declared.wish.Wish.the-variants.{Dark, Green, Metering, Clear}
+use Rattle.wanted.specs.declared.wish.Source.{Source}
+use Rattle.wanted.specs.declared.wish.Source.the-variants.{Manual, Centre, Plan}
 use Rattle.wanted.specs.declared.wish.Choice.{Choice}
-use Rattle.wanted.specs.Wish.{rateOf, kindOf, plannedOf, rulingOf, levelChoice, measuredChoice, responsiveChoice, choiceOf, choice}
+use Rattle.wanted.specs.Wish.{rateOf, kindOf, plannedOf, sourceOf, rulingOf, levelChoice, measuredChoice, responsiveChoice, choiceOf, choice}
 use Rattle.wanted.specs.Decision.{dayOf, entryInForce, commandInForce, decisionOf}
 
 abbrev pub WishGood : Wish → Type 0
@@ -55,6 +58,12 @@ ChoiceGood c = WishGood (c .wish)
 mode-of : (mode : ℕ) → 3 ≤ kindOf mode → 2 ≤ mode
 unfolding kindOf
 mode-of mode = one-of (λ (k : ℕ). 3 ≤ k → 2 ≤ mode) (ltb mode 3) (mode + 1) 4 (λ e h. omega arith) (λ e h. omega (arith, ltb-false mode 3 e))
+
+ruling-good : (source : Source) (manual centre planned : Command) → CommandGood manual → CommandGood centre → CommandGood planned
+    → CommandGood (rulingOf source manual centre planned)
+ruling-good Manual manual centre planned m c p = m
+ruling-good Centre manual centre planned m c p = c
+ruling-good Plan manual centre planned m c p = p
 
 module _ (x : Site) (ok : spoiltSite x ≡ false) where
   planned-good : (place : ℕ) → place ≤ x .entries → CommandGood (plannedOf (x .plan) place)
@@ -99,13 +108,9 @@ module _ (x : Site) (ok : spoiltSite x ≡ false) where
         (λ e. tt)))
 
   pub wish-good : (clock : Clock) (manual centre : Command) (p : Periods) → commandsBad manual centre ≡ false → WishGood (decisionOf x clock manual centre p .wish)
-  unfolding commandsBad decisionOf commandInForce entryInForce rulingOf
+  unfolding commandsBad decisionOf commandInForce entryInForce
   wish-good clock manual centre p e =
       let both = neither (commandBad manual) (commandBad centre) e in
-      let planned = plannedOf (x .plan) (entryInForce x clock) in
       choice-good (mainlineLanes x) p (commandInForce x clock manual centre)
-      (one-of CommandGood (eqb (manual .kind) 0) (cond (eqb (centre .kind) 0) planned centre) manual
-      (λ _. one-of CommandGood (eqb (centre .kind) 0) planned centre
-      (λ _. planned-good (entryInForce x clock) (in-force-in (x .plan) (x .entries) (dayOf x clock) _))
-      (λ _. command-rate centre (both .1)))
-      (λ _. command-rate manual (both .0)))
+      (ruling-good (sourceOf manual centre) manual centre (plannedOf (x .plan) (entryInForce x clock)) (command-rate manual (both .0)) (command-rate centre (both .1))
+      (planned-good (entryInForce x clock) (in-force-in (x .plan) (x .entries) (dayOf x clock) _)))

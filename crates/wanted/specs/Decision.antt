@@ -1,7 +1,7 @@
 -- Document 01, 'Day and entry', 'What is wanted': what a clock, two commands and the periods decide at a site.
 use Prim.Native.Nat.{ℕ, _/_}
 use Rattle.site.specs.declared.Site.{Site}
-use Rattle.site.specs.Record.{mainlineLanes}
+use Rattle.site.specs.Named.{mainlineLanes}
 use Rattle.calendar.specs.declared.clock.Clock.{Clock}
 use Rattle.calendar.specs.Holidays.{dayTypeOf}
 use Rattle.plan.specs.InForce.{inForceOf}
@@ -21,7 +21,7 @@ unfoldable pub entryInForce : Site → Clock → ℕ
 entryInForce x clock = inForceOf (x .plan) (x .entries) (dayOf x clock) (clock .tenth / 600)
 
 unfoldable pub commandInForce : Site → Clock → Command → Command → Command
-commandInForce x clock manual centre = rulingOf manual centre (plannedOf (x .plan) (entryInForce x clock))
+commandInForce x clock manual centre = rulingOf (sourceOf manual centre) manual centre (plannedOf (x .plan) (entryInForce x clock))
 
 unfoldable pub decisionOf : Site → Clock → Command → Command → Periods → Decision
 decisionOf x clock manual centre p =

@@ -32,12 +32,15 @@ plannedOf rows place =
     cond (eqb place 0) (record { kind = 1; rate = 0; table = 0 })
     (record { kind = kindOf (entryOf rows (place - 1) .mode); rate = entryOf rows (place - 1) .rate; table = entryOf rows (place - 1) .table })
 
--- "A manual command of kind 1-4 rules; else communications; else the entry."
-unfoldable pub rulingOf : Command → Command → Command → Command
-rulingOf manual centre planned = cond (eqb (manual .kind) 0) (cond (eqb (centre .kind) 0) planned centre) manual
-
+-- Who rules: "A manual command of kind 1-4 rules; else communications; else the entry."
 unfoldable pub sourceOf : Command → Command → Source
 sourceOf manual centre = cond (eqb (manual .kind) 0) (cond (eqb (centre .kind) 0) Plan Centre) Manual
+
+-- The command of who rules.
+abbrev pub rulingOf : Source → Command → Command → Command → Command
+rulingOf Manual manual centre planned = manual
+rulingOf Centre manual centre planned = centre
+rulingOf Plan manual centre planned = planned
 
 abbrev pub choice : ℕ → Wish → Choice
 choice level wish = record { level = level; wish = wish }

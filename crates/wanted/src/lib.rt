@@ -64,10 +64,11 @@ pub fn wanted_now(
     let day = day_of(site, clock);
     let entry = entry_in_force(site, clock, day);
     let plan = site.plan;
-    let command = wish::ruling(manual, centre, wish::planned(&plan, entry));
-    let tables = site.tables;
-    let choice = wish::chosen(command, &tables, site.levels, site.timings[14], p);
     let source = wish::source_of(manual, centre);
+    let command = wish::ruling(source, manual, centre, wish::planned(&plan, entry));
+    let tables = site.tables;
+    let shape = site::shape_of(site);
+    let choice = wish::chosen(command, &tables, site.levels, shape.mainline, p);
     let wish = choice.wish;
     Decision {
         day,

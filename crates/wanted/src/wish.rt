@@ -54,19 +54,7 @@ pub fn planned(rows: &[u16], place: u16) -> Command
     }
 }
 
-// The command that rules: manual, else communications, else the plan's.
-pub fn ruling(manual: Command, centre: Command, planned: Command) -> Command
-    ensures { λ r. ⌜ r ≡ rulingOf manual centre planned ⌝ }
-{
-    if manual.kind != 0 {
-        return manual;
-    }
-    if centre.kind != 0 {
-        return centre;
-    }
-    planned
-}
-
+// Who rules: the technician, else the control centre, else the plan.
 pub fn source_of(manual: Command, centre: Command) -> Source
     ensures { λ r. ⌜ r ≡ sourceOf manual centre ⌝ }
 {
@@ -77,6 +65,17 @@ pub fn source_of(manual: Command, centre: Command) -> Source
         return Source::Centre;
     }
     Source::Plan
+}
+
+// The command of who rules.
+pub fn ruling(source: Source, manual: Command, centre: Command, planned: Command) -> Command
+    ensures { λ r. ⌜ r ≡ rulingOf source manual centre planned ⌝ }
+{
+    match source {
+        Source::Manual => manual,
+        Source::Centre => centre,
+        Source::Plan => planned,
+    }
 }
 
 fn level_choice(rows: &[u16], place: u16) -> Choice

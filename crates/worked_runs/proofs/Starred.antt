@@ -19,7 +19,7 @@ use Rattle.period.specs.Counting.{laneCounted, laneCountedAt, passagesAt, count
 use Rattle.period.specs.Counts.{noPeriods, goodOf}
 use Rattle.period.specs.Range.{mostTicks, laneSpoilt as countsLaneSpoilt, meteredSpoilt, countsSpoilt, lastTicks, periodsSpoilt}
 use Rattle.wanted.specs.Decision.{dayOf, entryInForce, commandInForce, decisionOf}
-use Rattle.wanted.specs.Wish.{plannedOf, rulingOf, sourceOf, choiceOf}
+use Rattle.wanted.specs.Wish.{plannedOf, sourceOf, choiceOf}
 use Rattle.inputs.specs.Samples.{meteredBad, laneBad, samplesBad}
 use Rattle.inputs.specs.Commands.{commandBad, commandsBad}
 use Rattle.calendar.specs.Clock.{clockBad}
@@ -36,7 +36,7 @@ use Rattle.levels.specs.Levels.{reachesOf, isSlow, isMet}
 use Rattle.worked_runs.specs.Starred.{Starred}
 
 pub starred : Starred
-unfolding waitingBound turnTicks atPowerUp answerTo isAccepted onward greenBegins allDark cycleTicks roundedUp dayTypeOf isDate isWithinDates daysBefore monthLength dayNumber weekdayOf inMonth todayOf monthBefore yesterdayOf isFloating isFixed isNamed measuresOf totalsOf withLane goodOf isMet reachesOf isSlow wordsOf readOf sectionOf isGood rangeOf timingRange isWithin stateAfter answerAt releasesFrom releases inputRefusal tickRefusal timingsOf timesOf powerUpOf countedIn decidedIn cycleIn movedIn acceptedTick refusedTick tickOf stateSpoilt freshState allRed intervalOf lanesIn releasedIn groupOf lanesMoved movedWith movedOf colourShown lowerShown signShown laneShown indicationsOf ageOf timeOf successorOf nextInterval colourSpoilt laneSpoilt laneKept laneSpoiltAt lanesSpoilt groupSpoilt riseOf passagesOf greenEnds greenAt yellowAt laneTick laneOf lanesOf laneTickAt lanesTick laneEntered lanesEntered offsetTicks isReady readyAt anyGreen mayRelease nextLane releasedOf greenIf releaseOf laneCounted laneCountedAt passagesAt countedOf nextSerial closedOf afterTick greensAt greenCounted afterRelease noPeriods mostTicks countsLaneSpoilt meteredSpoilt countsSpoilt lastTicks periodsSpoilt dayOf entryInForce commandInForce decisionOf plannedOf rulingOf sourceOf choiceOf meteredBad laneBad samplesBad commandBad commandsBad clockBad spoiltOf spoiltSite rateRange tableRange
+unfolding waitingBound turnTicks atPowerUp answerTo isAccepted onward greenBegins allDark cycleTicks roundedUp dayTypeOf isDate isWithinDates daysBefore monthLength dayNumber weekdayOf inMonth todayOf monthBefore yesterdayOf isFloating isFixed isNamed measuresOf totalsOf withLane goodOf isMet reachesOf isSlow wordsOf readOf sectionOf isGood rangeOf timingRange isWithin stateAfter answerAt releasesFrom releases inputRefusal tickRefusal timingsOf powerUpOf countedIn decidedIn cycleIn movedIn acceptedTick refusedTick tickOf stateSpoilt freshState allRed intervalOf lanesIn releasedIn groupOf lanesMoved movedWith movedOf colourShown lowerShown signShown laneShown indicationsOf ageOf timeOf successorOf nextInterval colourSpoilt laneSpoilt laneKept laneSpoiltAt lanesSpoilt groupSpoilt riseOf passagesOf greenEnds greenAt yellowAt laneTick laneOf lanesOf laneTickAt lanesTick laneEntered lanesEntered offsetTicks isReady readyAt anyGreen mayRelease nextLane releasedOf greenIf releaseOf laneCounted laneCountedAt passagesAt countedOf nextSerial closedOf afterTick greensAt greenCounted afterRelease noPeriods mostTicks countsLaneSpoilt meteredSpoilt countsSpoilt lastTicks periodsSpoilt dayOf entryInForce commandInForce decisionOf plannedOf sourceOf choiceOf meteredBad laneBad samplesBad commandBad commandsBad clockBad spoiltOf spoiltSite rateRange tableRange
 starred = record {
   cycle-600 = refl;
   cycle-700 = refl;
@@ -70,4 +70,10 @@ starred = record {
   bound-of-one-lane = refl;
   in-time = refl;
   no-tick-to-spare = refl;
+  bound-of-two-lanes = refl;
+  two-in-time = refl;
+  two-no-tick-to-spare = refl;
+  bound-of-two-with-offset = refl;
+  two-with-offset-in-time = refl;
+  two-with-offset-no-tick-to-spare = refl;
 }

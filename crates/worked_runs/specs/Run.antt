@@ -11,15 +11,19 @@ use Rattle.tick.specs.declared.Ticked.{Ticked}
 use Rattle.tick.specs.Tick.{powerUpOf, tickOf}
 use Rattle.tick.specs.Waiting.{Call}
 
--- "Metering at 600 wanted always, demand on, no passage": wanted by the technician, at midnight of 1 January 2024.
-abbrev pub metering600 : Input
-metering600 = record {
+-- Metering at a rate wanted always, these demands on, no passage: wanted by the technician, at midnight of 1 January 2024.
+abbrev pub meteringAt : ℕ → List ℕ → Input
+meteringAt rate demand = record {
   clock = record { date = record { year = 2024; month = 1; day = 1 }; tenth = 0 };
-  lanes = record { demand = replicate 4 1; passage = replicate 4 0 };
+  lanes = record { demand = demand; passage = replicate 4 0 };
   main = record { working = replicate 6 1; occupied = replicate 6 0; vehicles = replicate 6 0; speed = replicate 6 0 };
-  manual = record { kind = 3; rate = 600; table = 0 };
+  manual = record { kind = 3; rate = rate; table = 0 };
   centre = record { kind = 0; rate = 0; table = 0 };
 }
+
+-- "Metering at 600 wanted always, demand on, no passage."
+abbrev pub metering600 : Input
+metering600 = meteringAt 600 (replicate 4 1)
 
 -- The state after k ticks from a state.
 unfoldable pub stateAfter : Site → Input → ℕ → State → State

@@ -17,6 +17,18 @@ siteWith lanes mode = record {
   tables = replicate 120 0;
 }
 
+-- Two lanes, every timing at its least.
+abbrev pub leastSite : ℕ → Site
+leastSite mode = record {
+  timings = 2 ∷ mode ∷ 1 ∷ 10 ∷ 10 ∷ 10 ∷ 10 ∷ 10 ∷ 10 ∷ 10 ∷ 10 ∷ 10 ∷ 1 ∷ 1 ∷ 1 ∷ [];
+  entries = 0;
+  plan = replicate 80 0;
+  holidays = 0;
+  dates = replicate 64 0;
+  levels = 0;
+  tables = replicate 120 0;
+}
+
 abbrev pub siteA : Site
 siteA = siteWith 2 0
 

@@ -2,7 +2,7 @@
 use Prim.Native.Nat.{ℕ}
 use mathlib.Core.Path.{_≡_}
 use mathlib.Core.Bool.{true, false}
-use mathlib.Core.List.{[], _∷_, _++_}
+use mathlib.Core.List.{List, [], _∷_, _++_}
 use lib.ListN.{length, take, replicate}
 use Rattle.site.specs.Reading.{refused, readOf}
 use Rattle.site.specs.Writing.{bytesOf}
@@ -14,10 +14,11 @@ use Rattle.levels.specs.Measures.{totalsOf, measuresOf}
 use Rattle.levels.specs.Levels.{isMet}
 use Rattle.release.specs.Cycle.{cycleTicks}
 use Rattle.waiting.specs.Bound.{waitingBound}
-use Rattle.tick.specs.Timings.{timingsOf}
-use Rattle.tick.specs.Waiting.{atPowerUp, courseAfter, acceptedTicks, beginsWithin}
-use Rattle.worked_runs.specs.SiteA.{siteWith, siteA, siteAWithOffset}
-use Rattle.worked_runs.specs.Run.{metering600, answerAt, releases, calls}
+use Rattle.site.specs.Named.{timingsOf}
+use Rattle.tick.specs.declared.Input.{Input}
+use Rattle.tick.specs.Waiting.{Call, Course, atPowerUp, courseAfter, acceptedTicks, beginsWithin}
+use Rattle.worked_runs.specs.SiteA.{siteWith, leastSite, siteA, siteAWithOffset}
+use Rattle.worked_runs.specs.Run.{meteringAt, metering600, answerAt, releases, calls}
 
 abbrev pub date : ℕ → ℕ → ℕ → Date
 date year month day = record { year = year; month = month; day = day }
@@ -37,6 +38,16 @@ threeLanes a b c = record {
 -- A level with a flow threshold alone.
 abbrev pub flowLevel : ℕ → Level
 flowLevel flow = record { table = 1; flow = flow; occupancy = 65535; speed = 65535; rate = 600 }
+
+-- Lane 2 alone in demand until its release, at tick 102; and 29 ticks more of that, before lane 1's demand comes too.
+abbrev pub laneTwo : Input
+laneTwo = meteringAt 1800 (0 ∷ 1 ∷ 0 ∷ 0 ∷ [])
+
+abbrev pub releasedLast : ℕ → Course
+releasedLast mode = courseAfter (atPowerUp (leastSite mode)) (calls (leastSite mode) laneTwo 102)
+
+abbrev pub thenBoth : ℕ → List Call
+thenBoth mode = calls (leastSite mode) laneTwo 29 ++ calls (leastSite mode) (meteringAt 1800 (1 ∷ 1 ∷ 0 ∷ 0 ∷ [])) 11
 
 pub record Starred : Type 0 where
   -- "Rate 600, V 1: cycle 60; 700: 52; 150 with V 3: 720."
@@ -80,3 +91,11 @@ pub record Starred : Type 0 where
   pub bound-of-one-lane : waitingBound (timingsOf (siteWith 1 0)) 60 ≡ 60
   pub in-time : beginsWithin 1 60 (courseAfter (atPowerUp (siteWith 1 0)) (calls (siteWith 1 0) metering600 311)) (calls (siteWith 1 0) metering600 60) ≡ true
   pub no-tick-to-spare : beginsWithin 1 59 (courseAfter (atPowerUp (siteWith 1 0)) (calls (siteWith 1 0) metering600 311)) (calls (siteWith 1 0) metering600 60) ≡ false
+  -- So is the turn of the other lane, in both service modes: lane 2, released at tick 102 and in demand ever since, is ready at 132; there
+  -- lane 1's demand comes, whose turn is first, and lane 2 is released at 142, the run's 40th tick and the bound's last.
+  pub bound-of-two-lanes : waitingBound (timingsOf (leastSite 0)) 20 ≡ 40
+  pub two-in-time : beginsWithin 2 40 (releasedLast 0) (thenBoth 0) ≡ true
+  pub two-no-tick-to-spare : beginsWithin 2 39 (releasedLast 0) (thenBoth 0) ≡ false
+  pub bound-of-two-with-offset : waitingBound (timingsOf (leastSite 1)) 20 ≡ 40
+  pub two-with-offset-in-time : beginsWithin 2 40 (releasedLast 1) (thenBoth 1) ≡ true
+  pub two-with-offset-no-tick-to-spare : beginsWithin 2 39 (releasedLast 1) (thenBoth 1) ≡ false

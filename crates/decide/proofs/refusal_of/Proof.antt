@@ -3,6 +3,7 @@ use Rattle.decide.specs.Decide.{refusalOf}
 use borrow.Author.Needs.{needs}
 use Rattle.decide.proofs.refusal_of.Statement.{statement}
 use Rattle.decide.proofs.refusal_of.Tie as tie
+use Rattle.state.proofs.spoilt.Reads as spoilt-reads′
 
 spoilt-requires : tie.Need-spoilt-requires
 spoilt-requires c κs = search needs
@@ -11,18 +12,15 @@ returns : tie.Need-returns
 unfolding refusalOf
 returns c = rw (← c .before .spoilt .ensures, c .if1 .taken)
 
-element-copy-out-spoilt : tie.Need-element-copy-out-spoilt
-element-copy-out-spoilt c = search needs
-
-element-copy-out-spoilt-2 : tie.Need-element-copy-out-spoilt-2
-element-copy-out-spoilt-2 c = search needs
+shape-of-requires : tie.Need-shape-of-requires
+shape-of-requires c κs = search needs
 
 spoilt-requires-2 : tie.Need-spoilt-requires-2
 spoilt-requires-2 c κs = search needs
 
 returns-2 : tie.Need-returns-2
 unfolding refusalOf
-returns-2 c = let a = c .before .before .before .before in rw (← a .before .spoilt .ensures, a .if1 .left, ← c .before .spoilt2 .ensures, c .if2 .taken)
+returns-2 c = let a = c .before .before .before in rw (← a .before .spoilt .ensures, a .if1 .left, ← c .before .before .shape-of .ensures, ← c .before .spoilt2 .ensures, c .if2 .taken)
 
 clock-bad-requires : tie.Need-clock-bad-requires
 clock-bad-requires c κs = search needs
@@ -31,8 +29,8 @@ returns-3 : tie.Need-returns-3
 unfolding refusalOf
 returns-3 c =
     let b = c .before .before in
-    let a = b .before .before .before .before in
-    rw (← a .before .spoilt .ensures, a .if1 .left, ← b .before .spoilt2 .ensures, b .if2 .left, ← c .before .clock-bad .ensures, c .if3 .taken)
+    let a = b .before .before .before in
+    rw (← a .before .spoilt .ensures, a .if1 .left, ← b .before .before .shape-of .ensures, ← b .before .spoilt2 .ensures, b .if2 .left, ← c .before .clock-bad .ensures, c .if3 .taken)
 
 commands-bad-requires : tie.Need-commands-bad-requires
 commands-bad-requires c κs = search needs
@@ -42,16 +40,16 @@ unfolding refusalOf
 returns-4 c =
     let d = c .before .before in
     let b = d .before .before in
-    let a = b .before .before .before .before in
-    rw (← a .before .spoilt .ensures, a .if1 .left, ← b .before .spoilt2 .ensures, b .if2 .left, ← d .before .clock-bad .ensures, d .if3 .left, ← c .before .commands-bad .ensures, c .if4 .taken)
+    let a = b .before .before .before in
+    rw (← a .before .spoilt .ensures, a .if1 .left, ← b .before .before .shape-of .ensures, ← b .before .spoilt2 .ensures, b .if2 .left, ← d .before .clock-bad .ensures, d .if3 .left, ← c .before .commands-bad .ensures, c .if4 .taken)
 
 returns-5 : tie.Need-returns-5
 unfolding refusalOf
 returns-5 c =
     let d = c .before .before in
     let b = d .before .before in
-    let a = b .before .before .before .before in
-    rw (← a .before .spoilt .ensures, a .if1 .left, ← b .before .spoilt2 .ensures, b .if2 .left, ← d .before .clock-bad .ensures, d .if3 .left, ← c .before .commands-bad .ensures, c .if4 .left)
+    let a = b .before .before .before in
+    rw (← a .before .spoilt .ensures, a .if1 .left, ← b .before .before .shape-of .ensures, ← b .before .spoilt2 .ensures, b .if2 .left, ← d .before .clock-bad .ensures, d .if3 .left, ← c .before .commands-bad .ensures, c .if4 .left)
 
 pub refusal-of-spec : {M : Type 1} → statement M
 refusal-of-spec =
@@ -59,8 +57,7 @@ refusal-of-spec =
     (tie.spec
     spoilt-requires
     returns
-    element-copy-out-spoilt
-    element-copy-out-spoilt-2
+    shape-of-requires
     spoilt-requires-2
     returns-2
     clock-bad-requires

@@ -11,18 +11,12 @@ returns : tie.Need-returns
 unfolding inputRefusal
 returns c = rw (← c .before .clock-bad .ensures, c .if1 .taken)
 
-element-copy-out-samples-bad : tie.Need-element-copy-out-samples-bad
-element-copy-out-samples-bad c = search needs
-
-element-copy-out-samples-bad-2 : tie.Need-element-copy-out-samples-bad-2
-element-copy-out-samples-bad-2 c = search needs
-
 samples-bad-requires : tie.Need-samples-bad-requires
 samples-bad-requires c κs = search needs
 
 returns-2 : tie.Need-returns-2
 unfolding inputRefusal
-returns-2 c = let d = c .before .before .before .before .before .before in
+returns-2 c = let d = c .before .before .before .before in
     rw (← d .before .clock-bad .ensures, d .if1 .left, ← c .before .samples-bad .ensures, c .if2 .taken)
 
 commands-bad-requires : tie.Need-commands-bad-requires
@@ -31,13 +25,13 @@ commands-bad-requires c κs = search needs
 returns-3 : tie.Need-returns-3
 unfolding inputRefusal
 returns-3 c = let b = c .before .before .before .before in
-    let d = b .before .before .before .before .before .before in
+    let d = b .before .before .before .before in
     rw (← d .before .clock-bad .ensures, d .if1 .left, ← b .before .samples-bad .ensures, b .if2 .left, ← c .before .commands-bad .ensures, c .if3 .taken)
 
 returns-4 : tie.Need-returns-4
 unfolding inputRefusal
 returns-4 c = let b = c .before .before .before .before in
-    let d = b .before .before .before .before .before .before in
+    let d = b .before .before .before .before in
     rw (← d .before .clock-bad .ensures, d .if1 .left, ← b .before .samples-bad .ensures, b .if2 .left, ← c .before .commands-bad .ensures, c .if3 .left)
 
 pub input-refusal-spec : {M : Type 1} → statement M
@@ -46,8 +40,6 @@ input-refusal-spec =
     (tie.spec
     clock-bad-requires
     returns
-    element-copy-out-samples-bad
-    element-copy-out-samples-bad-2
     samples-bad-requires
     returns-2
     commands-bad-requires

@@ -1,7 +1,7 @@
 -- The check for 14, then zeros or a fresh state.
 use Rattle.tick.specs.Tick.{powerUpOf}
 use Rattle.tick.proofs.WaitingLaws.{waiting-bound}
-use Rattle.site.specs.Record.{meteredLanes, mainlineLanes}
+use Rattle.site.specs.Named.{meteredLanes, shapeOf}
 use Rattle.site.proofs.TimingLaws.{timings-good}
 use Rattle.state.specs.State.{freshState}
 use Rattle.state.proofs.StateLaws.{good-state, fresh-good}
@@ -23,8 +23,8 @@ returns c =
     let r = c .before .before in
     (rw (← r .spoilt .ensures, c .before .if1 .taken, c .zero .ensures), ((λ z. absurd (omega arith)), waiting-bound _))
 
-element-copy-out-fresh : tie.Need-element-copy-out-fresh
-element-copy-out-fresh c = search needs
+shape-of-requires : tie.Need-shape-of-requires
+shape-of-requires c κs = search needs
 
 fresh-requires : tie.Need-fresh-requires
 fresh-requires c κs = search needs
@@ -33,20 +33,14 @@ returns-2 : tie.Need-returns-2
 unfolding powerUpOf
 returns-2 c =
     let r = c .before .before .before in
-    let x = r .before .args .t1 in
+    let x = r .before .args .site in
     let ok = sym (r .spoilt .ensures) ∙ c .before .before .if1 .left in
-    let good = fresh-good (meteredLanes x) (mainlineLanes x) (timings-good x ok .lanes-least) in (
-      rw (ok, c .fresh .ensures),
-      ((λ _. rw (c .fresh .ensures) (good-state (freshState (meteredLanes x)) (meteredLanes x) (mainlineLanes x) good)), waiting-bound _),
+    let good = fresh-good (shapeOf x) (timings-good x ok .lanes-least) in (
+      rw (ok, c .fresh .ensures, c .before .shape-of .ensures),
+      ((λ _. rw (c .fresh .ensures, c .before .shape-of .ensures) (good-state (freshState (meteredLanes x)) (shapeOf x) good)), waiting-bound _),
     )
 
 pub power-up-spec : {M : Type 1} → statement M
 power-up-spec =
     tie.close
-    (tie.spec
-    spoilt-requires
-    zero-requires
-    returns
-    element-copy-out-fresh
-    fresh-requires
-    returns-2)
+    (tie.spec spoilt-requires zero-requires returns shape-of-requires fresh-requires returns-2)

@@ -3,6 +3,7 @@ use Rattle.tick.specs.Checks.{tickRefusal}
 use borrow.Author.Needs.{needs}
 use Rattle.tick.proofs.refusal_of.Statement.{statement}
 use Rattle.tick.proofs.refusal_of.Tie as tie
+use Rattle.state.proofs.spoilt.Reads as spoilt-reads′
 
 spoilt-requires : tie.Need-spoilt-requires
 spoilt-requires c κs = search needs
@@ -11,19 +12,16 @@ returns : tie.Need-returns
 unfolding tickRefusal
 returns c = rw (← c .before .spoilt .ensures, c .if1 .taken)
 
-element-copy-out-spoilt : tie.Need-element-copy-out-spoilt
-element-copy-out-spoilt c = search needs
-
-element-copy-out-spoilt-2 : tie.Need-element-copy-out-spoilt-2
-element-copy-out-spoilt-2 c = search needs
+shape-of-requires : tie.Need-shape-of-requires
+shape-of-requires c κs = search needs
 
 spoilt-requires-2 : tie.Need-spoilt-requires-2
 spoilt-requires-2 c κs = search needs
 
 returns-2 : tie.Need-returns-2
 unfolding tickRefusal
-returns-2 c = let d = c .before .before .before .before in
-    rw (← d .before .spoilt .ensures, d .if1 .left, ← c .before .spoilt2 .ensures, c .if2 .taken)
+returns-2 c = let d = c .before .before .before in
+    rw (← d .before .spoilt .ensures, d .if1 .left, ← c .before .before .shape-of .ensures, ← c .before .spoilt2 .ensures, c .if2 .taken)
 
 input-refusal-requires : tie.Need-input-refusal-requires
 input-refusal-requires c κs = search needs
@@ -31,8 +29,8 @@ input-refusal-requires c κs = search needs
 returns-3 : tie.Need-returns-3
 unfolding tickRefusal
 returns-3 c = let b = c .before in
-    let d = b .before .before .before .before in
-    rw (← d .before .spoilt .ensures, d .if1 .left, ← b .before .spoilt2 .ensures, b .if2 .left) (c .input-refusal .ensures)
+    let d = b .before .before .before in
+    rw (← d .before .spoilt .ensures, d .if1 .left, ← b .before .before .shape-of .ensures, ← b .before .spoilt2 .ensures, b .if2 .left) (c .input-refusal .ensures)
 
 pub refusal-of-spec : {M : Type 1} → statement M
 refusal-of-spec =
@@ -40,8 +38,7 @@ refusal-of-spec =
     (tie.spec
     spoilt-requires
     returns
-    element-copy-out-spoilt
-    element-copy-out-spoilt-2
+    shape-of-requires
     spoilt-requires-2
     returns-2
     input-refusal-requires

@@ -8,15 +8,15 @@ use Rattle.tick.proofs.refused.Tie as tie
 no-decision-requires : tie.Need-no-decision-requires
 no-decision-requires c κs = search needs
 
-element-copy-out-shown : tie.Need-element-copy-out-shown
-element-copy-out-shown c = search needs
+shape-of-requires : tie.Need-shape-of-requires
+shape-of-requires c κs = search needs
 
 shown-requires : tie.Need-shown-requires
 shown-requires c κs = search needs
 
 returns : tie.Need-returns
 unfolding refusedTick
-returns c = rw (lt-ltb _ _ (c .before .before .before .if1 .taken), c .shown .ensures, c .before .before .before .before .no-decision .ensures)
+returns c = rw (lt-ltb _ _ (c .before .before .before .if1 .taken), c .shown .ensures, c .before .shape-of .ensures, c .before .before .before .before .no-decision .ensures)
 
 all-dark-requires : tie.Need-all-dark-requires
 all-dark-requires c κs = search needs
@@ -30,7 +30,7 @@ refused-spec =
     tie.close
     (tie.spec
     no-decision-requires
-    element-copy-out-shown
+    shape-of-requires
     shown-requires
     returns
     all-dark-requires

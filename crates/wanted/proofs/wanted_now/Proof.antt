@@ -6,7 +6,7 @@ use borrow.Author.Needs.{needs}
 use Rattle.wanted.proofs.wanted_now.Statement.{statement}
 use Rattle.wanted.proofs.wanted_now.Tie as tie
 
-tables-long : (s : tie.Start) → length (s .args .t1 .tables) ≡ 120
+tables-long : (s : tie.Start) → length (s .args .site .tables) ≡ 120
 tables-long s = search needs
 
 day-of-requires : tie.Need-day-of-requires
@@ -14,6 +14,9 @@ day-of-requires c κs = search needs
 
 entry-in-force-requires : tie.Need-entry-in-force-requires
 entry-in-force-requires c κs = search needs
+
+source-of-requires : tie.Need-source-of-requires
+source-of-requires c κs = search needs
 
 slice-aggregate-planned : tie.Need-slice-aggregate-planned
 slice-aggregate-planned c = search needs
@@ -24,23 +27,20 @@ planned-requires c κs = search needs
 ruling-requires : tie.Need-ruling-requires
 ruling-requires c κs = search needs
 
-slice-aggregate-chosen : tie.Need-slice-aggregate-chosen
-slice-aggregate-chosen c = sym (tables-long (c .before .before .before .before .before .before .before .before))
+shape-of-requires : tie.Need-shape-of-requires
+shape-of-requires c κs = search needs
 
-element-copy-out-chosen : tie.Need-element-copy-out-chosen
-element-copy-out-chosen c = search needs
+slice-aggregate-chosen : tie.Need-slice-aggregate-chosen
+slice-aggregate-chosen c = sym (tables-long (c .before .before .before .before .before .before .before .before .before .before))
 
 chosen-requires : tie.Need-chosen-requires
 chosen-requires c κs = search needs
-
-source-of-requires : tie.Need-source-of-requires
-source-of-requires c κs = search needs
 
 returns : tie.Need-returns
 unfolding decisionOf commandInForce
 returns c =
     let e = c .before .before .before .before .before .before .before .before .before in
-    rw (c .source-of .ensures, c .before .chosen .ensures, c .before .before .before .before .before .ruling .ensures, c .before .before .before .before .before .before .planned .ensures, e .entry-in-force .ensures, e .before .day-of .ensures)
+    rw (c .chosen .ensures, c .before .before .shape-of .ensures, c .before .before .before .before .ruling .ensures, c .before .before .before .before .before .planned .ensures, c .before .before .before .before .before .before .before .source-of .ensures, e .entry-in-force .ensures, e .before .day-of .ensures)
 
 pub wanted-now-spec : {M : Type 1} → statement M
 wanted-now-spec =
@@ -48,11 +48,11 @@ wanted-now-spec =
     (tie.spec
     day-of-requires
     entry-in-force-requires
+    source-of-requires
     slice-aggregate-planned
     planned-requires
     ruling-requires
+    shape-of-requires
     slice-aggregate-chosen
-    element-copy-out-chosen
     chosen-requires
-    source-of-requires
     returns)

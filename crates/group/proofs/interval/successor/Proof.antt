@@ -8,6 +8,9 @@ use Rattle.group.proofs.interval.successor.Tie as tie
 from-dark-requires : tie.Need-from-dark-requires
 from-dark-requires c κs = search needs
 
+minutes-requires : tie.Need-minutes-requires
+minutes-requires c κs = search needs
+
 from-green-requires : tie.Need-from-green-requires
 from-green-requires c κs = search needs
 
@@ -24,7 +27,7 @@ returns-2 c = simp (c .before .match .keys2, c .from-dark .ensures)
 
 returns-3 : tie.Need-returns-3
 unfolding successorOf
-returns-3 c = simp (c .before .before .match .keys3, c .from-green .ensures)
+returns-3 c = simp (c .before .before .match .keys3, c .from-green .ensures, c .before .minutes .ensures)
 
 returns-4 : tie.Need-returns-4
 unfolding successorOf
@@ -67,6 +70,7 @@ successor-spec =
     tie.close
     (tie.spec
     from-dark-requires
+    minutes-requires
     from-green-requires
     from-metering-requires
     returns
