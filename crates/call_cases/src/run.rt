@@ -123,7 +123,8 @@ fn decide_now(run: Run, op: &[u8]) -> Run {
     let centre = input.centre;
     let decided = decide::decide(site, state, clock, manual, centre);
     let decision = decided.decision;
-    print::decided(decided.refusal, decision, site.timings[2]);
+    let timings = site::timings_of(site);
+    print::decided(decided.refusal, decision, timings.vehicles);
     run
 }
 
