@@ -2,51 +2,48 @@
 // count. A place that there is not leaves the record as it is.
 use site::Site;
 
+fn set_number(numbers: &mut [u16], place: usize, value: u16) {
+    if place == 0 {
+        return;
+    }
+    if place <= numbers.len() {
+        numbers[place - 1] = value;
+    }
+}
+
+fn count_at(place: usize, count: u16, value: u16) -> u16 {
+    if place == 0 { value } else { count }
+}
+
 // The timings' count is always 15, and is not kept.
 fn with_timing(mut site: Site, place: usize, value: u16) -> Site {
-    if place == 0 {
-        return site;
-    }
-    if 15 < place {
-        return site;
-    }
-    site.timings[place - 1] = value;
+    let mut timings = site.timings;
+    set_number(&mut timings, place, value);
+    site.timings = timings;
     site
 }
 
 fn with_entry(mut site: Site, place: usize, value: u16) -> Site {
-    if place == 0 {
-        site.entries = value;
-        return site;
-    }
-    if 80 < place {
-        return site;
-    }
-    site.plan[place - 1] = value;
+    let mut plan = site.plan;
+    set_number(&mut plan, place, value);
+    site.entries = count_at(place, site.entries, value);
+    site.plan = plan;
     site
 }
 
 fn with_holiday(mut site: Site, place: usize, value: u16) -> Site {
-    if place == 0 {
-        site.holidays = value;
-        return site;
-    }
-    if 64 < place {
-        return site;
-    }
-    site.dates[place - 1] = value;
+    let mut dates = site.dates;
+    set_number(&mut dates, place, value);
+    site.holidays = count_at(place, site.holidays, value);
+    site.dates = dates;
     site
 }
 
 fn with_level(mut site: Site, place: usize, value: u16) -> Site {
-    if place == 0 {
-        site.levels = value;
-        return site;
-    }
-    if 120 < place {
-        return site;
-    }
-    site.tables[place - 1] = value;
+    let mut tables = site.tables;
+    set_number(&mut tables, place, value);
+    site.levels = count_at(place, site.levels, value);
+    site.tables = tables;
     site
 }
 

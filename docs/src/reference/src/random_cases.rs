@@ -1,6 +1,7 @@
 //! Fresh random cases of a seed, in number: long runs, states that no run need reach, spoilt ones, and files, sites and inputs
-//! with something out of range. Behind each that is refused comes one that is not, so that every refusal is printed.
+//! with something out of range. Behind each that is refused comes one that is not.
 
+use crate::call_run::{from_power_up, timing, Op};
 use crate::cases;
 use crate::random::Random;
 use crate::site::{bytes, Site, TIMINGS, UNUSED};
@@ -10,7 +11,6 @@ use crate::tick_cases::{
     strange_states, Setting,
 };
 use crate::wanted::lanes;
-use crate::call_run::{from_power_up, timing, Op};
 
 /// Cases of each kind in one seed.
 const RUNS: u16 = 24;

@@ -2,13 +2,13 @@
 //! The cases are made without the rules: a change of a rule changes what they print, never the cases.
 
 use crate::calendar::{Clock, Date};
+use crate::call_run::{from_power_up, timing, Op};
 use crate::cases;
 use crate::files::site_a;
 use crate::periods::{Counts, Sample};
 use crate::random::Random;
 use crate::site::{bytes, Site, TIMINGS, UNUSED};
 use crate::tick::{Input, KeptLane, State};
-use crate::call_run::{from_power_up, timing, Op};
 use crate::wanted::Command;
 
 const RUNS: u16 = 24;
