@@ -3,11 +3,13 @@ use Prim.Native.Nat.{ℕ, _+_, _-_, _≤_, _<_}
 use mathlib.Core.Path.{_≡_, refl}
 use mathlib.Core.Bool.{Bool, true, false, cond, _&&_}
 use native.Mathlib.Omega.{arith}
-use borrow.Author.Tests.{leb-true, leb-false}
+use borrow.Author.Tests.{leb-true, leb-false, ltb-true}
 use lib.Dec.{leb, ltb}
 use lib.ListN.{getD}
+use Rattle.numbers.specs.Within.{between, isWithin}
+use Rattle.numbers.proofs.WithinLaws.{ends}
 use Rattle.calendar.specs.declared.day.Date.{Date}
-use Rattle.calendar.specs.Dates.{isWithin, table, isLeap, daysBefore, monthLength, isDate, dayNumber, weekdayOf}
+use Rattle.calendar.specs.Dates.{table, isLeap, daysBefore, monthLength, isDate, dayNumber, weekdayOf}
 use Rattle.calendar.specs.Days.{monthBefore}
 use Rattle.calendar.proofs.Below.{and-left, and-right, below}
 
@@ -49,13 +51,17 @@ module _ (y m : ℕ) (h : m ≤ 12) where
   unfolding monthLength
   length-most = omega (arith, before-near)
 
-pub within-low : (a x b : ℕ) → isWithin a x b ≡ true → a ≤ x
-unfolding isWithin
-within-low a x b e = leb-true _ _ (and-left _ _ e)
+-- Each month has a day.
+all-days : (leap : Bool) (i : ℕ) → i < 12 → ltb (before leap (i + 1)) (before leap (i + 1 + 1)) ≡ true
+all-days true = below (λ i. ltb (before true (i + 1)) (before true (i + 1 + 1))) 12 refl
+all-days false = below (λ i. ltb (before false (i + 1)) (before false (i + 1 + 1))) 12 refl
 
-pub within-high : (a x b : ℕ) → isWithin a x b ≡ true → x ≤ b
-unfolding isWithin
-within-high a x b e = leb-true _ _ (and-right (leb a x) _ e)
+pub length-least : (y m : ℕ) → 1 ≤ m → m ≤ 12 → 1 ≤ monthLength y m
+unfolding monthLength daysBefore
+length-least y m l h =
+    let e : m - 1 + 1 ≡ m = omega arith in
+    let rises : daysBefore y m < daysBefore y (m + 1) = ltb-true _ _ (rw e at (all-days (isLeap y) (m - 1) (omega arith))) in
+    omega (arith, rises)
 
 pub record Bounds (date : Date) : Type 0 where
   pub year-low : 2000 ≤ date .year
@@ -63,6 +69,7 @@ pub record Bounds (date : Date) : Type 0 where
   pub month-low : 1 ≤ date .month
   pub month-high : date .month ≤ 12
   pub day-low : 1 ≤ date .day
+  pub day-in-month : date .day ≤ monthLength (date .year) (date .month)
   pub day-high : date .day ≤ 31
 
 pub bounds : (date : Date) → isDate date ≡ true → Bounds date
@@ -71,18 +78,21 @@ bounds date e =
     let y = date .year in
     let m = date .month in
     let d = date .day in
-    let front = and-left (isWithin 2000 y 2099 && isWithin 1 m 12) _ e in
-    let year = and-left (isWithin 2000 y 2099) _ front in
-    let month = and-right (isWithin 2000 y 2099) _ front in
-    let day = and-right (isWithin 2000 y 2099 && isWithin 1 m 12) _ e in
-    let high = within-high 1 m 12 month in
+    let front = and-left (isWithin (between 2000 2099) y && isWithin (between 1 12) m) _ e in
+    let year = and-left (isWithin (between 2000 2099) y) _ front in
+    let month = and-right (isWithin (between 2000 2099) y) _ front in
+    let day = and-right (isWithin (between 2000 2099) y && isWithin (between 1 12) m) _ e in
+    let years = ends (between 2000 2099) y year in
+    let months = ends (between 1 12) m month in
+    let days = ends (between 1 (monthLength y m)) d day in
     record {
-      year-low = within-low 2000 y 2099 year;
-      year-high = within-high 2000 y 2099 year;
-      month-low = within-low 1 m 12 month;
-      month-high = high;
-      day-low = within-low 1 d (monthLength y m) day;
-      day-high = omega (arith, within-high 1 d (monthLength y m) day, length-most y m high);
+      year-low = years .0;
+      year-high = years .1;
+      month-low = months .0;
+      month-high = months .1;
+      day-low = days .0;
+      day-in-month = days .1;
+      day-high = omega (arith, length-most y m (months .1));
     }
 
 pub number-most : (date : Date) → isDate date ≡ true → dayNumber date < 40000

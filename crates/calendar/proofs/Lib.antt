@@ -1,3 +1,4 @@
 pub mod Below
 pub mod DateLaws
+pub mod NextDate
 pub mod RowLaws

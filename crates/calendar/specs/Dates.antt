@@ -3,13 +3,10 @@
 use Prim.Native.Nat.{ℕ, _+_, _-_, _*_, _/_, _%_}
 use mathlib.Core.Bool.{Bool, cond, _&&_}
 use mathlib.Core.List.{List, [], _∷_}
-use lib.Dec.{leb, ltb, eqb}
+use lib.Dec.{ltb, eqb}
 use lib.ListN.{getD}
+use Rattle.numbers.specs.Within.{between, isWithin}
 use Rattle.calendar.specs.declared.day.Date.{Date}
-
--- From low to high, both included.
-unfoldable pub isWithin : ℕ → ℕ → ℕ → Bool
-isWithin low x high = leb low x && leb x high
 
 -- Days of a year that is not leap before each of its months, and before its end.
 abbrev pub table : List ℕ
@@ -29,9 +26,9 @@ monthLength year month = daysBefore year (month + 1) - daysBefore year month
 -- "Year 2000-2099, a true date."
 unfoldable pub isDate : Date → Bool
 isDate date =
-    isWithin 2000 (date .year) 2099
-    && isWithin 1 (date .month) 12
-    && isWithin 1 (date .day) (monthLength (date .year) (date .month))
+    isWithin (between 2000 2099) (date .year)
+    && isWithin (between 1 12) (date .month)
+    && isWithin (between 1 (monthLength (date .year) (date .month))) (date .day)
 
 -- Days from 1 January 2000: those of the years before, one more for each leap year among them, and those of its own year.
 unfoldable pub dayNumber : Date → ℕ

@@ -4,6 +4,8 @@ use mathlib.Core.Bool.{Bool, false, cond, _&&_, _||_}
 use mathlib.Core.List.{List}
 use lib.Dec.{eqb}
 use lib.ListN.{getD}
+use Rattle.ranges.specs.declared.Section.the-variants.{Holidays}
+use Rattle.ranges.specs.Sections.{widthOf}
 use Rattle.calendar.specs.declared.day.Date.{Date}
 use Rattle.calendar.specs.declared.day.Day.{Day}
 use Rattle.calendar.specs.declared.Row.{Row}
@@ -12,23 +14,21 @@ use Rattle.calendar.specs.Days.{todayOf, yesterdayOf}
 
 -- Kind, month, day or week, weekday: holiday i of a site's rows, the first being 0.
 abbrev pub rowOf : List ℕ → ℕ → Row
-rowOf rows i = record {
-  kind = getD rows (i * 4) 0;
-  month = getD rows (i * 4 + 1) 0;
-  nth = getD rows (i * 4 + 2) 0;
-  weekday = getD rows (i * 4 + 3) 0;
-}
+rowOf rows i =
+    let at : ℕ = i * widthOf Holidays in
+    record { kind = getD rows at 0; month = getD rows (at + 1) 0; nth = getD rows (at + 2) 0; weekday = getD rows (at + 3) 0 }
 
 -- "The day of that month."
 unfoldable pub isFixed : Day → Row → Bool
 isFixed day row = eqb (day .month) (row .month) && eqb (day .day) (row .nth)
 
--- "The week 1-5 and weekday 0-6, Sunday 0. Week 5 means the final such weekday."
+-- "The week 1-5." "Week 5 means the final such weekday."
+unfoldable pub inWeek : Day → Row → Bool
+inWeek day row = eqb (day .month) (row .month) && cond (eqb (row .nth) 5) (day .last) (eqb (day .week) (row .nth))
+
+-- "The week 1-5 and weekday 0-6, Sunday 0."
 unfoldable pub isFloating : Day → Row → Bool
-isFloating day row =
-    eqb (day .month) (row .month)
-    && eqb (day .weekday) (row .weekday)
-    && cond (eqb (row .nth) 5) (day .last) (eqb (day .week) (row .nth))
+isFloating day row = eqb (day .weekday) (row .weekday) && inWeek day row
 
 -- "Kind 1 fixed, 2 floating, 3 the day after a floating one." "A date is of kind 3 if the day before is the floating date."
 unfoldable pub isNamed : Day → Day → Row → Bool

@@ -2,8 +2,9 @@
 ghost use mathlib.Core.Path.{_≡_};
 ghost use mathlib.Core.Bool.{true};
 ghost use Prim.Native.Nat.{_≤_};
-ghost use Rattle.calendar.specs.Dates.{isWithin, daysBefore, monthLength, isDate, dayNumber, weekdayOf};
+ghost use Rattle.calendar.specs.Dates.{daysBefore, monthLength, isDate, dayNumber, weekdayOf};
 ghost use Rattle.calendar.specs.Days.{inMonth, monthBefore, todayOf, yesterdayOf};
+use numbers::Range;
 
 pub struct Date {
     pub year: u16,
@@ -25,9 +26,17 @@ pub struct Day {
 
 const FIRST_YEAR: u16 = 2000;
 
-const LAST_YEAR: u16 = 2099;
-
 const DECEMBER: u16 = 12;
+
+const YEARS: Range = Range {
+    low: FIRST_YEAR,
+    high: 2099,
+};
+
+const MONTHS: Range = Range {
+    low: 1,
+    high: DECEMBER,
+};
 
 const WEEK: u16 = 7;
 
@@ -41,15 +50,6 @@ const FIRST_WEEKDAY: u16 = 6;
 
 // Days of a year that is not leap before each of its months, and before its end.
 const DAYS_BEFORE: [u16; 13] = [0, 31, 59, 90, 120, 151, 181, 212, 243, 273, 304, 334, 365];
-
-fn within(low: u16, x: u16, high: u16) -> bool
-    ensures { λ r. ⌜ r ≡ isWithin low x high ⌝ }
-{
-    if x < low {
-        return false;
-    }
-    x <= high
-}
 
 // Days of the year before this month, the thirteenth being the next January.
 fn days_before(year: u16, month: u16) -> u16
@@ -78,13 +78,17 @@ fn month_length(year: u16, month: u16) -> u16
 pub fn is_date(date: Date) -> bool
     ensures { λ r. ⌜ r ≡ isDate date ⌝ }
 {
-    if !within(FIRST_YEAR, date.year, LAST_YEAR) {
+    if !numbers::within(YEARS, date.year) {
         return false;
     }
-    if !within(1, date.month, DECEMBER) {
+    if !numbers::within(MONTHS, date.month) {
         return false;
     }
-    within(1, date.day, month_length(date.year, date.month))
+    let days = Range {
+        low: 1,
+        high: month_length(date.year, date.month),
+    };
+    numbers::within(days, date.day)
 }
 
 // Days from 1 January 2000.

@@ -4,7 +4,7 @@ mod day;
 
 use day::Day;
 ghost use mathlib.Core.Path.{_≡_};
-ghost use Rattle.calendar.specs.Holidays.{rowOf, isFixed, isFloating, isNamed, isHoliday, dayTypeOf};
+ghost use Rattle.calendar.specs.Holidays.{rowOf, isFixed, inWeek, isNamed, isHoliday, dayTypeOf};
 pub use clock::BAD_CLOCK;
 pub use clock::Clock;
 pub use clock::clock_bad;
@@ -41,7 +41,7 @@ struct Row {
 fn row_at(rows: &[u16], i: u16) -> Row
     ensures { λ r. ⌜ r ≡ rowOf (now (rows .entry)) i ⌝ }
 {
-    let at = (i as usize) * 4;
+    let at = (i as usize) * ranges::HOLIDAY_WIDTH;
     Row {
         kind: numbers::number_at(rows, at),
         month: numbers::number_at(rows, at + 1),
@@ -60,14 +60,11 @@ fn is_fixed(day: Day, row: Row) -> bool
     day.day == row.nth
 }
 
-// Whether the row's month, week and weekday are this day's.
-fn is_floating(day: Day, row: Row) -> bool
-    ensures { λ r. ⌜ r ≡ isFloating day row ⌝ }
+// Whether the row's month and week are this day's.
+fn in_week(day: Day, row: Row) -> bool
+    ensures { λ r. ⌜ r ≡ inWeek day row ⌝ }
 {
     if day.month != row.month {
-        return false;
-    }
-    if day.weekday != row.weekday {
         return false;
     }
     if row.nth == FINAL_WEEK {
@@ -84,10 +81,16 @@ fn is_named(today: Day, yesterday: Day, row: Row) -> bool
         return is_fixed(today, row);
     }
     if row.kind == FLOATING {
-        return is_floating(today, row);
+        if today.weekday != row.weekday {
+            return false;
+        }
+        return in_week(today, row);
     }
     if row.kind == DAY_AFTER {
-        return is_floating(yesterday, row);
+        if yesterday.weekday != row.weekday {
+            return false;
+        }
+        return in_week(yesterday, row);
     }
     false
 }

@@ -3,7 +3,7 @@ use Prim.Native.Nat.{ℕ}
 use mathlib.Core.Bool.{cond, _||_}
 use lib.Dec.{ltb, eqb}
 use lib.ListN.{replicate}
-use Rattle.period.specs.Counting.{four}
+use Rattle.loops.specs.Each.{four}
 use Rattle.lanes.specs.Lanes.{laneOf}
 use Rattle.group.specs.declared.Group.{Group}
 use Rattle.group.specs.declared.indication.Indications.{Indications}

@@ -1,9 +1,8 @@
 // One tick's samples and commands, and their ranges. The clock's date is the calendar's.
 ghost use mathlib.Core.Path.{_≡_};
-ghost use Prim.Native.Nat.{_-_};
 ghost use Rattle.loops.specs.Any.{anyFrom};
 ghost use Rattle.inputs.specs.Samples.{meteredBad, laneBad, samplesBad, meteredSampleOf, laneSampleOf};
-ghost use Rattle.inputs.specs.Commands.{commandBad, commandsBad};
+ghost use Rattle.inputs.specs.Commands.{carriesNothing, commandBad, commandsBad};
 
 // A tick's samples of the metered lanes: each 0 or 1.
 pub struct Metered {
@@ -153,24 +152,30 @@ pub fn samples_bad(lanes: Metered, main: Mainline, n: u16, m: u16) -> bool
     any_lane_bad(main, m)
 }
 
-// The entry mode that a command's kind stands for.
-fn mode_of(kind: u16) -> u16
-    ensures { λ r. ⌜ r ≡ kind - 1 ⌝ }
+fn carries_nothing(c: Command) -> bool
+    ensures { λ r. ⌜ r ≡ carriesNothing c ⌝ }
 {
-    if kind == 0 { 0 } else { kind - 1 }
+    if c.rate != 0 {
+        return false;
+    }
+    c.table == 0
 }
 
+// Whether a command is out of range. Kinds 1 to 4 are an entry's modes 0 to 3.
 fn command_bad(c: Command) -> bool
     ensures { λ r. ⌜ r ≡ commandBad c ⌝ }
 {
+    if c.kind == 0 {
+        return !carries_nothing(c);
+    }
     if 4 < c.kind {
         return true;
     }
-    let mode = mode_of(c.kind);
-    if !ranges::within(ranges::rate_range(mode), c.rate) {
+    let mode = c.kind - 1;
+    if !numbers::within(ranges::rate_range(mode), c.rate) {
         return true;
     }
-    !ranges::within(ranges::table_range(mode), c.table)
+    !numbers::within(ranges::table_range(mode), c.table)
 }
 
 // Whether one of the two commands is out of range.

@@ -1,2 +1,4 @@
+pub mod Longest
 pub mod Names
+pub mod NextStart
 pub mod Turns

@@ -4,11 +4,10 @@ use mathlib.Core.Path.{_≡_, refl, ap, _∙_}
 use mathlib.Core.Bool.{Bool, true, false}
 use mathlib.Core.List.{List, [], _++_}
 use native.Mathlib.Omega.{arith}
-use borrow.Author.Count.{below-more}
 use borrow.Author.Tests.{ne-eqb}
 use Rattle.plan.specs.declared.Entry.{Entry}
 use Rattle.plan.specs.Entry.{entryOf, onDay}
-use Rattle.listing.specs.NextStart.{NextStart}
+use Rattle.listing.proofs.NextStart.{NextStart}
 use Rattle.listing.specs.Timetable.{lineIf, startingAt, minutesFrom, daysFrom}
 
 pub entries-turn : (rows : List ℕ) (day minute count left : ℕ) → 0 < left → left ≤ count
@@ -56,12 +55,3 @@ skipped rows count day from r s (suc k) m h e =
 pub skip : (rows : List ℕ) (count day from r : ℕ) → NextStart rows count from r
     → minutesFrom rows count day from (1440 - from) ≡ minutesFrom rows count day r (1440 - r)
 skip rows count day from r s = skipped rows count day from r s (r - from) from (omega arith) (omega (arith, s .after))
-
--- The search for the next start, one entry on.
-pub next-turn : (rows : List ℕ) (i from best r : ℕ) → NextStart rows i from best → from ≤ r → r ≤ best → (from ≤ entryOf rows i .start → r ≤ entryOf rows i .start)
-    → NextStart rows (i + 1) from r
-next-turn rows i from best r s a b h = record {
-  after = a;
-  within = omega (arith, s .within);
-  none-before = below-more _ _ (λ j l g. omega (arith, s .none-before j l g)) h;
-}

@@ -1,10 +1,16 @@
--- The minute from which a day's listing goes on.
-use Prim.Native.Nat.{ℕ, _≤_, _<_}
+-- The minute at which a day's listing goes on: the code passes over the minutes at which nothing starts.
+use Prim.Native.Nat.{ℕ, zero, suc}
+use mathlib.Core.Bool.{cond, _&&_}
 use mathlib.Core.List.{List}
+use lib.Dec.{leb}
 use Rattle.plan.specs.Entry.{entryOf}
+use Rattle.listing.specs.Timetable.{dayMinutes}
 
--- r is the earliest start at or after a minute of the day, 1440 where there is none.
-pub record NextStart (rows : List ℕ) (count from r : ℕ) : Type 0 where
-  pub after : from ≤ r
-  pub within : r ≤ 1440
-  pub none-before : (j : ℕ) → j < count → from ≤ entryOf rows j .start → r ≤ entryOf rows j .start
+-- A start, if it is at or after a minute of the day and no later than the best so far; else that one.
+unfoldable pub earlierOf : ℕ → ℕ → ℕ → ℕ
+earlierOf start from best = cond (leb from start && leb start best) start best
+
+-- The earliest start at or after a minute of the day, among the first n entries; the day's end where there is none.
+abbrev pub nextStartOf : List ℕ → ℕ → ℕ → ℕ
+nextStartOf rows from zero = dayMinutes
+nextStartOf rows from (suc n) = earlierOf (entryOf rows n .start) from (nextStartOf rows from n)

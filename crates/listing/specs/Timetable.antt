@@ -1,6 +1,6 @@
 -- Document 01, 'Worked runs': what the timetable program prints. "Per day type in bit order, entries by start, equal starts as filed: day,
 -- start as hh:mm, mode, rate, table, place in the file from 1, one blank between."
-use Prim.Native.Nat.{ℕ, zero, suc, _+_, _/_, _%_}
+use Prim.Native.Nat.{ℕ, zero, suc, _+_, _*_, _/_, _%_}
 use mathlib.Core.Bool.{cond}
 use mathlib.Core.List.{List, [], _∷_, _++_}
 use lib.Dec.{eqb}
@@ -9,7 +9,7 @@ use Rattle.text.specs.Ascii.{ascii}
 use Rattle.text.specs.Decimal.{twoDigits}
 use Rattle.phrases.specs.Phrases.{dayName, blankAndDecimal, refusalLine}
 use Rattle.plan.specs.declared.Entry.{Entry}
-use Rattle.plan.specs.Entry.{entryOf, onDay}
+use Rattle.plan.specs.Entry.{entryOf, dayTypes, onDay}
 use Rattle.site.specs.declared.Site.{Site}
 use Rattle.site.specs.declared.ReadSite.{ReadSite}
 use Rattle.site.specs.Reading.{readOf}
@@ -45,13 +45,16 @@ abbrev pub minutesFrom : List ℕ → ℕ → ℕ → ℕ → ℕ → List ℕ
 minutesFrom rows count day minute zero = []
 minutesFrom rows count day minute (suc n) = startingAt rows day minute 0 count ++ minutesFrom rows count day (minute + 1) n
 
--- "Per day type in bit order": n day types from this one on, each with the 1440 minutes of a day.
+abbrev pub dayMinutes : ℕ
+dayMinutes = 1440
+
+-- "Per day type in bit order": n day types from this one on, each with the minutes of a day.
 abbrev pub daysFrom : List ℕ → ℕ → ℕ → ℕ → List ℕ
 daysFrom rows count day zero = []
-daysFrom rows count day (suc n) = minutesFrom rows count day 0 1440 ++ daysFrom rows count (day + 1) n
+daysFrom rows count day (suc n) = minutesFrom rows count day 0 dayMinutes ++ daysFrom rows count (day + 1) n
 
 unfoldable pub timetableOf : Site → List ℕ
-timetableOf x = ascii "day start mode rate table filed\n" ++ daysFrom (x .plan) (x .entries) 0 8
+timetableOf x = ascii "day start mode rate table filed\n" ++ daysFrom (x .plan) (x .entries) 0 dayTypes
 
 -- What is printed of what reading gave: "A refused file prints only `refused N at P`."
 unfoldable pub printedOf : ReadSite → List ℕ
@@ -60,3 +63,7 @@ printedOf r = cond (eqb (r .refusal) 0) (timetableOf (r .site)) (refusalLine (r 
 -- What is printed of a site file's bytes.
 abbrev pub textOf : List ℕ → List ℕ
 textOf file = printedOf (readOf file)
+
+-- The longest text: a heading of 32 bytes, and on each day type 9 lines of 25 bytes, in places 1 to 9, and 7 of 26.
+abbrev pub longestText : ℕ
+longestText = 32 + dayTypes * (9 * 25 + 7 * 26)

@@ -3,20 +3,22 @@ mod line;
 
 ghost use mathlib.Core.Path.{_≡_};
 ghost use Prim.Native.Nat.{_≤_};
+ghost use mathlib.Core.List.{_++_};
+ghost use lib.ListN.{length, drop};
 ghost use Rattle.text.specs.Put.{Put};
 ghost use Rattle.output.specs.Output.{answerOf, bufferOf};
-ghost use Rattle.listing.specs.Timetable.{startingAt, minutesFrom, daysFrom, timetableOf, printedOf, textOf};
-ghost use Rattle.listing.specs.NextStart.{NextStart};
+ghost use Rattle.plan.specs.Entry.{dayTypes};
+ghost use Rattle.listing.specs.Timetable.{dayMinutes, startingAt, minutesFrom, daysFrom, timetableOf, printedOf, textOf, longestText};
+ghost use Rattle.listing.specs.NextStart.{earlierOf, nextStartOf};
 use output::Written;
 use site::ReadSite;
 use site::Site;
 
 const MINUTES_OF_A_DAY: u16 = 1440;
 
-// The earlier of two starts, where the first is at or after a minute of the day.
+// A start, if it is at or after a minute of the day and no later than the best so far; else that one.
 fn earlier(start: u16, from: u16, best: u16) -> u16
-    requires { ⌜ from ≤ best ⌝ }
-    ensures { λ r. ⌜ (from ≤ r) × (r ≤ best) × (from ≤ start → r ≤ start) ⌝ }
+    ensures { λ r. ⌜ r ≡ earlierOf start from best ⌝ }
 {
     if start < from {
         return best;
@@ -27,10 +29,9 @@ fn earlier(start: u16, from: u16, best: u16) -> u16
     start
 }
 
-// The earliest start at or after a minute of the day.
+// The earliest start at or after a minute of the day; 1440 where there is none.
 fn next_start(rows: &[u16], count: u16, from: u16) -> u16
-    requires { ⌜ from ≤ 1440 ⌝ }
-    ensures { λ r. ⌜ NextStart (now (rows .entry)) count from r ⌝ }
+    ensures { λ r. ⌜ r ≡ nextStartOf (now (rows .entry)) from count ⌝ }
 {
     let mut best = MINUTES_OF_A_DAY;
     let mut i: u16 = 0;
@@ -59,7 +60,7 @@ fn put_starting(out: &mut [u8], at: usize, rows: &[u16], count: u16, day: u16, m
 
 // The lines of one day, by start.
 fn put_day(out: &mut [u8], at: usize, rows: &[u16], count: u16, day: u16) -> usize
-    ensures { λ r. ⌜ Put (now (out .entry)) at (minutesFrom (now (rows .entry)) count day 0 1440) r (now (out .exit)) ⌝ }
+    ensures { λ r. ⌜ Put (now (out .entry)) at (minutesFrom (now (rows .entry)) count day 0 dayMinutes) r (now (out .exit)) ⌝ }
 {
     let mut p = at;
     let mut start = next_start(rows, count, 0);
@@ -72,11 +73,11 @@ fn put_day(out: &mut [u8], at: usize, rows: &[u16], count: u16, day: u16) -> usi
 
 // The lines of all day types, in bit order.
 fn put_days(out: &mut [u8], at: usize, rows: &[u16], count: u16) -> usize
-    ensures { λ r. ⌜ Put (now (out .entry)) at (daysFrom (now (rows .entry)) count 0 8) r (now (out .exit)) ⌝ }
+    ensures { λ r. ⌜ Put (now (out .entry)) at (daysFrom (now (rows .entry)) count 0 dayTypes) r (now (out .exit)) ⌝ }
 {
     let mut p = at;
     let mut day: u16 = 0;
-    while day < 8 {
+    while day < plan::DAY_TYPES {
         p = put_day(out, p, rows, count, day);
         day += 1;
     }
@@ -102,11 +103,16 @@ fn put_printed(out: &mut [u8], at: usize, read: ReadSite) -> usize
     put_timetable(out, at, site)
 }
 
+// The longest text: a heading of 32 bytes, and on each of 8 day types 9 lines of 25 bytes, in places 1
+// to 9, and 7 of 26.
+pub const LONGEST_TEXT: usize = 3288;
+
 // Writes what is printed of a site file's bytes to the front of out: its timetable, or the line
-// that says why it is refused and where.
+// that says why it is refused and where. A buffer with room for the longest text is never refused.
 pub fn print(file: &[u8], out: &mut [u8]) -> Written
     ensures answer { λ r. ⌜ r ≡ answerOf 0 (textOf (now (file .entry))) (now (out .entry)) ⌝ }
     ensures buffer { λ _. ⌜ now (out .exit) ≡ bufferOf 0 (textOf (now (file .entry))) (now (out .entry)) ⌝ }
+    ensures room { λ r. ⌜ (longestText ≤ length (now (out .entry)) → r .refusal ≡ 0) ⌝ }
 {
     let read = site_reader::read(file);
     let mut none = [0u8; 1];
@@ -116,4 +122,13 @@ pub fn print(file: &[u8], out: &mut [u8]) -> Written
     }
     let count = put_printed(out, 0, read);
     output::accepted_write(count)
+}
+
+// The same in a buffer with room for the longest text: how many bytes it has.
+pub fn print_whole(file: &[u8], out: &mut [u8; LONGEST_TEXT]) -> usize
+    ensures count { λ r. ⌜ r ≡ length (textOf (now (file .entry))) ⌝ }
+    ensures buffer { λ _. ⌜ now (out .exit) ≡ textOf (now (file .entry)) ++ drop (length (textOf (now (file .entry)))) (now (out .entry)) ⌝ }
+{
+    let written = print(file, out);
+    written.count
 }

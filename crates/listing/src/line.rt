@@ -1,5 +1,4 @@
 // One entry's line in the timetable.
-ghost use mathlib.Core.Path.{_≡_};
 ghost use Rattle.text.specs.Put.{Put};
 ghost use Rattle.listing.specs.Timetable.{modeName, clockText, numbersText, lineOf, lineIf};
 use plan::Entry;

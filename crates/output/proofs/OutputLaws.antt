@@ -36,3 +36,12 @@ count-case earlier text d false b ea eb = rw ea (omega arith)
 
 pub count-fits : (earlier : ℕ) (text d : List ℕ) → answerOf earlier text d .count ≤ length d
 count-fits earlier text d = count-case earlier text d _ _ refl refl
+
+-- What is not refused had room.
+room-case : (text d : List ℕ) (b : Bool) → ltb (length d) (length text) ≡ b → answerOf 0 text d .refusal ≡ 0 → length text ≤ length d
+unfolding answerOf
+room-case text d true e h = let y = rw e at h in absurd (omega (arith, y))
+room-case text d false e h = ltb-false (length d) (length text) e
+
+pub had-room : (text d : List ℕ) → answerOf 0 text d .refusal ≡ 0 → length text ≤ length d
+had-room text d h = room-case text d _ refl h

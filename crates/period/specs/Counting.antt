@@ -1,9 +1,9 @@
 -- Document 01, 'One tick's input', 'What is wanted', 'Poll record': what a tick counts. "The 300th tick's counts close the period."
-use Prim.Native.Nat.{ℕ, _+_, _≤_, _<_}
+use Prim.Native.Nat.{ℕ, _+_}
 use mathlib.Core.Bool.{cond}
-use mathlib.Core.List.{List, [], _∷_}
 use lib.Dec.{ltb, eqb}
 use lib.ListN.{getD}
+use Rattle.loops.specs.Each.{four, six}
 use Rattle.inputs.specs.declared.Metered.{Metered}
 use Rattle.inputs.specs.declared.Mainline.{Mainline}
 use Rattle.inputs.specs.declared.LaneSample.{LaneSample}
@@ -30,13 +30,6 @@ laneCountedAt c s m j = cond (ltb j m) (laneCounted (laneOf c j) (laneSampleOf s
 
 unfoldable pub passagesAt : Counts → Metered → ℕ → ℕ → ℕ
 passagesAt c s n i = cond (ltb i n) (getD (c .passages) i 0 + getD (s .passage) i 0) (getD (c .passages) i 0)
-
--- What stands at lanes 0 to 3, and 0 to 5.
-abbrev pub four : {A : Type 0} → (ℕ → A) → List A
-four f = f 0 ∷ f 1 ∷ f 2 ∷ f 3 ∷ []
-
-abbrev pub six : {A : Type 0} → (ℕ → A) → List A
-six f = f 0 ∷ f 1 ∷ f 2 ∷ f 3 ∷ f 4 ∷ f 5 ∷ []
 
 -- The open period's counts, with this tick's.
 unfoldable pub countedOf : Counts → Metered → Mainline → ℕ → ℕ → Counts
@@ -86,15 +79,3 @@ afterRelease p released =
     (cond (eqb (p .ticks) 0)
     (record { ticks = p .ticks; current = p .current; serial = p .serial; last = greenCounted (p .last) released })
     (record { ticks = p .ticks; current = greenCounted (p .current) released; serial = p .serial; last = p .last }))
-
--- What counting asks so that no number of the machine is too small: a lane in range at fewer than 300 ticks has it,
-pub record LaneRoom (c : LaneCounts) (s : LaneSample) : Type 0 where
-  pub worked : c .worked < 300
-  pub vehicles : c .vehicles < 300
-  pub occupied : c .occupied + s .occupied ≤ 30000
-  pub timed : c .timed < 300
-  pub speeds : c .speeds + s .speed ≤ 75000
-
--- and so do greens in range.
-pub record GreensRoom (c : Counts) : Type 0 where
-  pub greens : (i : ℕ) → i < 4 → getD (c .greens) i 0 ≤ 300

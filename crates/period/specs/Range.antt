@@ -11,25 +11,34 @@ use Rattle.period.specs.declared.LaneCounts.{LaneCounts}
 use Rattle.period.specs.declared.Periods.{Periods}
 use Rattle.period.specs.Counts.{laneOf}
 
--- At how many of a period's ticks lane i of k lanes can have been counted: beyond k at none, so that anything kept there is 0.
-unfoldable pub mostTicks : ℕ → ℕ → ℕ → ℕ
-mostTicks i k ticks = cond (ltb i k) ticks 0
-
 -- A mainline lane's counts, at so many ticks.
 unfoldable pub laneSpoilt : LaneCounts → ℕ → Bool
 laneSpoilt c ticks =
     ltb ticks (c .worked)
     || (ltb ticks (c .vehicles) || (ltb (100 * ticks) (c .occupied) || (ltb (c .vehicles) (c .timed) || ltb (250 * c .timed) (c .speeds))))
 
+-- "Anything kept beyond m is not 0."
+unfoldable pub laneKept : LaneCounts → Bool
+laneKept c = ltb 0 (c .worked) || (ltb 0 (c .vehicles) || (ltb 0 (c .occupied) || (ltb 0 (c .timed) || ltb 0 (c .speeds))))
+
+unfoldable pub laneSpoiltAt : Counts → ℕ → ℕ → ℕ → Bool
+laneSpoiltAt c m ticks j = cond (ltb j m) (laneSpoilt (laneOf c j) ticks) (laneKept (laneOf c j))
+
 -- A metered lane's counts, at so many ticks.
 unfoldable pub meteredSpoilt : ℕ → ℕ → ℕ → Bool
 meteredSpoilt passages greens ticks = ltb ticks passages || ltb ticks greens
 
+-- "Anything kept beyond n is not 0."
+unfoldable pub meteredKept : ℕ → ℕ → Bool
+meteredKept passages greens = ltb 0 passages || ltb 0 greens
+
+unfoldable pub meteredSpoiltAt : Counts → ℕ → ℕ → ℕ → Bool
+meteredSpoiltAt c n ticks i =
+    cond (ltb i n) (meteredSpoilt (getD (c .passages) i 0) (getD (c .greens) i 0) ticks) (meteredKept (getD (c .passages) i 0) (getD (c .greens) i 0))
+
 -- The counts of a period of so many ticks, at a site of n metered and m mainline lanes.
 unfoldable pub countsSpoilt : Counts → ℕ → ℕ → ℕ → Bool
-countsSpoilt c n m ticks =
-    anyFrom (λ i. meteredSpoilt (getD (c .passages) i 0) (getD (c .greens) i 0) (mostTicks i n ticks)) 0 4
-    || anyFrom (λ j. laneSpoilt (laneOf c j) (mostTicks j m ticks)) 0 6
+countsSpoilt c n m ticks = anyFrom (meteredSpoiltAt c n ticks) 0 4 || anyFrom (laneSpoiltAt c m ticks) 0 6
 
 -- The ticks of the completed period.
 unfoldable pub lastTicks : ℕ → ℕ

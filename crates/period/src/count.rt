@@ -1,12 +1,12 @@
 // What a tick counts.
 ghost use mathlib.Core.Path.{_≡_};
 ghost use mathlib.Core.Bool.{false};
-ghost use Prim.Native.Nat.{_+_, _≤_, _<_};
+ghost use Prim.Native.Nat.{ℕ, _+_, _≤_, _<_};
 ghost use lib.ListN.{getD};
-ghost use Rattle.inputs.specs.Samples.{laneSampleOf, samplesBad};
+ghost use Rattle.inputs.specs.Samples.{laneSampleOf, laneBad, samplesBad};
 ghost use Rattle.period.specs.Counts.{laneOf, noCounts, noPeriods};
-ghost use Rattle.period.specs.Range.{periodsSpoilt};
-ghost use Rattle.period.specs.Counting.{LaneRoom, GreensRoom, greensAt, greenCounted, afterRelease, laneCounted, laneCountedAt, passagesAt, countedOf, nextSerial, closedOf, afterTick};
+ghost use Rattle.period.specs.Range.{laneSpoilt, periodsSpoilt};
+ghost use Rattle.period.specs.Counting.{greensAt, greenCounted, afterRelease, laneCounted, laneCountedAt, passagesAt, countedOf, nextSerial, closedOf, afterTick};
 use crate::Counts;
 use crate::LaneCounts;
 use crate::Periods;
@@ -18,7 +18,7 @@ const LAST_SERIAL: u32 = 4294967295;
 
 // One mainline lane's counts with a tick's samples.
 fn lane_counted(c: LaneCounts, s: LaneSample) -> LaneCounts
-    requires { ⌜ LaneRoom c s ⌝ }
+    requires { ⌜ (laneSpoilt c 299 ≡ false) × (laneBad s ≡ false) ⌝ }
     ensures { λ r. ⌜ r ≡ laneCounted c s ⌝ }
 {
     if s.working != 1 {
@@ -53,7 +53,7 @@ fn lane_counted(c: LaneCounts, s: LaneSample) -> LaneCounts
 
 // The same, of mainline lane j of m.
 fn lane_counted_at(c: Counts, s: Mainline, m: u16, j: u16) -> LaneCounts
-    requires { ⌜ (j < m → LaneRoom (laneOf c j) (laneSampleOf s j)) ⌝ }
+    requires { ⌜ (j < m → (laneSpoilt (laneOf c j) 299 ≡ false) × (laneBad (laneSampleOf s j) ≡ false)) ⌝ }
     ensures { λ r. ⌜ r ≡ laneCountedAt c s m j ⌝ }
 {
     let lane = crate::lane_counts(c, j);
@@ -174,7 +174,7 @@ pub fn after_tick(p: Periods, lanes: Metered, main: Mainline, n: u16, m: u16) ->
 
 // The greens of lane i, the first being 0, with that of the released lane, from 1.
 fn greens_at(c: Counts, released: u16, i: u16) -> u16
-    requires { ⌜ (i < 4) × GreensRoom c ⌝ }
+    requires { ⌜ (i < 4) × (getD (c .greens) i 0 ≤ 300) ⌝ }
     ensures { λ r. ⌜ r ≡ greensAt c released i ⌝ }
 {
     let k = i as usize;
@@ -186,7 +186,7 @@ fn greens_at(c: Counts, released: u16, i: u16) -> u16
 
 // The counts with the green of the released lane, from 1; 0 for none.
 fn green_counted(c: Counts, released: u16) -> Counts
-    requires { ⌜ GreensRoom c ⌝ }
+    requires { ⌜ ((i : ℕ) → i < 4 → getD (c .greens) i 0 ≤ 300) ⌝ }
     ensures { λ r. ⌜ r ≡ greenCounted c released ⌝ }
 {
     let passages = c.passages;
@@ -213,7 +213,7 @@ fn green_counted(c: Counts, released: u16) -> Counts
 
 // The periods after the tick's release of a lane, from 1; 0 for none. The tick is counted already.
 pub fn after_release(p: Periods, released: u16) -> Periods
-    requires { ⌜ GreensRoom (p .current) × GreensRoom (p .last) ⌝ }
+    requires { ⌜ ((i : ℕ) → i < 4 → (getD (p .current .greens) i 0 ≤ 300) × (getD (p .last .greens) i 0 ≤ 300)) ⌝ }
     ensures { λ r. ⌜ r ≡ afterRelease p released ⌝ }
 {
     if released == 0 {

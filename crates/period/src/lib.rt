@@ -3,7 +3,7 @@ mod count;
 mod range;
 
 ghost use mathlib.Core.Path.{_≡_};
-ghost use Rattle.period.specs.Counts.{laneOf};
+ghost use Rattle.period.specs.Counts.{laneOf, goodOf};
 pub use count::after_release;
 pub use count::after_tick;
 pub use count::no_periods;
@@ -64,4 +64,11 @@ pub fn lane_counts(c: Counts, j: u16) -> LaneCounts
         timed: c.timed[k],
         speeds: c.speeds[k],
     }
+}
+
+// Whether a mainline lane is good: it worked at all of a completed period's ticks.
+pub fn is_good(lane: LaneCounts) -> bool
+    ensures { λ r. ⌜ r ≡ goodOf lane ⌝ }
+{
+    lane.worked == TICKS_OF_A_PERIOD
 }

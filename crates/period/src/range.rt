@@ -1,19 +1,17 @@
 // Whether the periods' counts are in range.
 ghost use mathlib.Core.Path.{_≡_};
-ghost use lib.ListN.{getD};
+ghost use Prim.Native.Nat.{_<_};
 ghost use Rattle.loops.specs.Any.{anyFrom};
-ghost use Rattle.period.specs.Counts.{laneOf};
-ghost use Rattle.period.specs.Range.{mostTicks, laneSpoilt, meteredSpoilt, countsSpoilt, lastTicks, periodsSpoilt};
+ghost use Rattle.period.specs.Range.{laneSpoilt, laneKept, laneSpoiltAt, meteredSpoilt, meteredKept, meteredSpoiltAt, countsSpoilt, lastTicks, periodsSpoilt};
 use crate::Counts;
 use crate::LaneCounts;
 use crate::Periods;
+use crate::TICKS_OF_A_PERIOD;
 
-// At how many of a period's ticks lane i of k lanes can have been counted.
-fn most_ticks(i: u16, k: u16, ticks: u16) -> u16
-    ensures { λ r. ⌜ r ≡ mostTicks i k ticks ⌝ }
-{
-    if i < k { ticks } else { 0 }
-}
+// The most milliseconds that a lane is occupied in a tick, and the highest speed in km/h.
+const MOST_OCCUPIED: u32 = 100;
+
+const MOST_SPEED: u32 = 250;
 
 fn lane_spoilt(c: LaneCounts, ticks: u16) -> bool
     ensures { λ r. ⌜ r ≡ laneSpoilt c ticks ⌝ }
@@ -24,13 +22,42 @@ fn lane_spoilt(c: LaneCounts, ticks: u16) -> bool
     if ticks < c.vehicles {
         return true;
     }
-    if 100 * (ticks as u32) < c.occupied as u32 {
+    if MOST_OCCUPIED * (ticks as u32) < c.occupied as u32 {
         return true;
     }
     if c.vehicles < c.timed {
         return true;
     }
-    250 * (c.timed as u32) < c.speeds
+    MOST_SPEED * (c.timed as u32) < c.speeds
+}
+
+// Whether anything of a lane is not 0.
+fn lane_kept(c: LaneCounts) -> bool
+    ensures { λ r. ⌜ r ≡ laneKept c ⌝ }
+{
+    if 0 < c.worked {
+        return true;
+    }
+    if 0 < c.vehicles {
+        return true;
+    }
+    if 0 < c.occupied {
+        return true;
+    }
+    if 0 < c.timed {
+        return true;
+    }
+    0 < c.speeds
+}
+
+fn lane_spoilt_at(c: Counts, m: u16, ticks: u16, j: u16) -> bool
+    ensures { λ r. ⌜ r ≡ laneSpoiltAt c m ticks j ⌝ }
+{
+    let lane = crate::lane_counts(c, j);
+    if j < m {
+        return lane_spoilt(lane, ticks);
+    }
+    lane_kept(lane)
 }
 
 fn metered_spoilt(passages: u16, greens: u16, ticks: u16) -> bool
@@ -42,13 +69,32 @@ fn metered_spoilt(passages: u16, greens: u16, ticks: u16) -> bool
     ticks < greens
 }
 
+fn metered_kept(passages: u16, greens: u16) -> bool
+    ensures { λ r. ⌜ r ≡ meteredKept passages greens ⌝ }
+{
+    if 0 < passages {
+        return true;
+    }
+    0 < greens
+}
+
+fn metered_spoilt_at(c: Counts, n: u16, ticks: u16, i: u16) -> bool
+    requires { ⌜ i < 4 ⌝ }
+    ensures { λ r. ⌜ r ≡ meteredSpoiltAt c n ticks i ⌝ }
+{
+    let k = i as usize;
+    if i < n {
+        return metered_spoilt(c.passages[k], c.greens[k], ticks);
+    }
+    metered_kept(c.passages[k], c.greens[k])
+}
+
 fn any_metered_spoilt(c: Counts, n: u16, ticks: u16) -> bool
-    ensures { λ r. ⌜ r ≡ anyFrom (λ i. meteredSpoilt (getD (c .passages) i 0) (getD (c .greens) i 0) (mostTicks i n ticks)) 0 4 ⌝ }
+    ensures { λ r. ⌜ r ≡ anyFrom (meteredSpoiltAt c n ticks) 0 4 ⌝ }
 {
     let mut i: u16 = 0;
     while i < 4 {
-        let k = i as usize;
-        if metered_spoilt(c.passages[k], c.greens[k], most_ticks(i, n, ticks)) {
+        if metered_spoilt_at(c, n, ticks, i) {
             return true;
         }
         i += 1;
@@ -57,11 +103,11 @@ fn any_metered_spoilt(c: Counts, n: u16, ticks: u16) -> bool
 }
 
 fn any_lane_spoilt(c: Counts, m: u16, ticks: u16) -> bool
-    ensures { λ r. ⌜ r ≡ anyFrom (λ j. laneSpoilt (laneOf c j) (mostTicks j m ticks)) 0 6 ⌝ }
+    ensures { λ r. ⌜ r ≡ anyFrom (laneSpoiltAt c m ticks) 0 6 ⌝ }
 {
     let mut j: u16 = 0;
     while j < 6 {
-        if lane_spoilt(crate::lane_counts(c, j), most_ticks(j, m, ticks)) {
+        if lane_spoilt_at(c, m, ticks, j) {
             return true;
         }
         j += 1;
@@ -81,7 +127,7 @@ fn counts_spoilt(c: Counts, n: u16, m: u16, ticks: u16) -> bool
 fn last_ticks(serial: u32) -> u16
     ensures { λ r. ⌜ r ≡ lastTicks serial ⌝ }
 {
-    if serial == 0 { 0 } else { 300 }
+    if serial == 0 { 0 } else { TICKS_OF_A_PERIOD }
 }
 
 // Whether the periods' counts are outside their ranges, at a site of n metered and m mainline
@@ -89,7 +135,7 @@ fn last_ticks(serial: u32) -> u16
 pub fn periods_spoilt(p: Periods, n: u16, m: u16) -> bool
     ensures { λ r. ⌜ r ≡ periodsSpoilt p n m ⌝ }
 {
-    if 299 < p.ticks {
+    if TICKS_OF_A_PERIOD <= p.ticks {
         return true;
     }
     let current = p.current;

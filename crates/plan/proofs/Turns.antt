@@ -5,17 +5,17 @@ use mathlib.Core.Bool.{true, false}
 use mathlib.Core.List.{List}
 use native.Mathlib.Omega.{arith}
 use Rattle.plan.specs.Entry.{entryOf}
-use Rattle.plan.specs.InForce.{isLater, inForceFrom}
+use Rattle.plan.specs.InForce.{takesOver, inForceFrom}
 
 module _ (rows : List ℕ) (day minute best start i n : ℕ) (h : i < n) where
   one-more : n - i ≡ suc (n - (i + 1))
   one-more = omega arith
 
-  pub takes : isLater (entryOf rows i) day minute start ≡ true
+  pub takes : takesOver (entryOf rows i) day minute best start ≡ true
       → inForceFrom rows day minute best start i (n - i) ≡ inForceFrom rows day minute (i + 1) (entryOf rows i .start) (i + 1) (n - (i + 1))
   takes e = rw (one-more, e)
 
-  pub skips : isLater (entryOf rows i) day minute start ≡ false
+  pub skips : takesOver (entryOf rows i) day minute best start ≡ false
       → inForceFrom rows day minute best start i (n - i) ≡ inForceFrom rows day minute best start (i + 1) (n - (i + 1))
   skips e = rw (one-more, e)
 

@@ -5,18 +5,26 @@ use mathlib.Core.Bool.{Bool, false, cond}
 use mathlib.Core.List.{List}
 use lib.Dec.{ltb, eqb}
 use lib.ListN.{getD}
+use Rattle.ranges.specs.declared.Section.the-variants.{Entries}
+use Rattle.ranges.specs.Sections.{widthOf}
 use Rattle.plan.specs.declared.Entry.{Entry}
 
 -- Entry i of a plan's rows, the first being 0.
 abbrev pub entryOf : List ℕ → ℕ → Entry
-entryOf rows i = record {
-  days = getD rows (i * 5) 0;
-  start = getD rows (i * 5 + 1) 0;
-  mode = getD rows (i * 5 + 2) 0;
-  rate = getD rows (i * 5 + 3) 0;
-  table = getD rows (i * 5 + 4) 0;
-}
+entryOf rows i =
+    let at : ℕ = i * widthOf Entries in
+    record {
+      days = getD rows at 0;
+      start = getD rows (at + 1) 0;
+      mode = getD rows (at + 2) 0;
+      rate = getD rows (at + 3) 0;
+      table = getD rows (at + 4) 0;
+    }
 
--- Whether the day mask has the bit of this day type. There are eight day types.
+-- Sunday to Saturday, and Holiday.
+abbrev pub dayTypes : ℕ
+dayTypes = 8
+
+-- Whether the day mask has the bit of this day type.
 unfoldable pub onDay : ℕ → ℕ → Bool
-onDay days day = cond (ltb day 8) (eqb (days / 2 ^ day % 2) 1) false
+onDay days day = cond (ltb day dayTypes) (eqb (days / 2 ^ day % 2) 1) false

@@ -1,7 +1,7 @@
 // The plan's entries.
 ghost use mathlib.Core.Path.{_≡_};
 ghost use Rattle.plan.specs.Entry.{entryOf, onDay};
-ghost use Rattle.plan.specs.InForce.{isLater, inForceOf, InForce};
+ghost use Rattle.plan.specs.InForce.{applies, takesOver, inForceOf, InForce};
 
 // One time-of-day entry.
 pub struct Entry {
@@ -17,11 +17,14 @@ pub struct Entry {
     pub table: u16,
 }
 
+// Sunday to Saturday, and Holiday.
+pub const DAY_TYPES: u16 = 8;
+
 // Entry i of a plan's rows, the first being 0; all 0 where there is none.
 pub fn entry_at(rows: &[u16], i: u16) -> Entry
     ensures { λ r. ⌜ r ≡ entryOf (now (rows .entry)) i ⌝ }
 {
-    let at = (i as usize) * 5;
+    let at = (i as usize) * ranges::ENTRY_WIDTH;
     Entry {
         days: numbers::number_at(rows, at),
         start: numbers::number_at(rows, at + 1),
@@ -35,28 +38,37 @@ pub fn entry_at(rows: &[u16], i: u16) -> Entry
 pub fn on_day(days: u16, day: u16) -> bool
     ensures { λ r. ⌜ r ≡ onDay days day ⌝ }
 {
-    if 8 <= day {
+    if DAY_TYPES <= day {
         return false;
     }
     (days >> day) & 1 == 1
 }
 
-// Whether an entry is of this day type, has started by this minute, and starts no earlier than
-// another.
-fn is_later(e: Entry, day: u16, minute: u16, start: u16) -> bool
-    ensures { λ r. ⌜ r ≡ isLater e day minute start ⌝ }
+// Whether an entry is of this day type and has started by this minute.
+fn applies(e: Entry, day: u16, minute: u16) -> bool
+    ensures { λ r. ⌜ r ≡ applies e day minute ⌝ }
 {
     if !on_day(e.days, day) {
         return false;
     }
-    if minute < e.start {
+    e.start <= minute
+}
+
+// Whether an entry applies and starts no earlier than the one in force so far, if there is one.
+fn takes_over(e: Entry, day: u16, minute: u16, best: u16, start: u16) -> bool
+    ensures { λ r. ⌜ r ≡ takesOver e day minute best start ⌝ }
+{
+    if !applies(e, day, minute) {
         return false;
+    }
+    if best == 0 {
+        return true;
     }
     start <= e.start
 }
 
-// The place from 1 of the entry in force; 0 for none. It is the latest start of those that apply, and
-// of equal starts the last filed.
+// The place from 1 of the entry in force; 0 for none. It is the one of the latest start among those that
+// apply, and among equal starts the last filed.
 pub fn in_force(rows: &[u16], count: u16, day: u16, minute: u16) -> u16
     ensures is { λ r. ⌜ r ≡ inForceOf (now (rows .entry)) count day minute ⌝ }
     ensures latest { λ r. ⌜ InForce (now (rows .entry)) count day minute r ⌝ }
@@ -66,7 +78,7 @@ pub fn in_force(rows: &[u16], count: u16, day: u16, minute: u16) -> u16
     let mut i: u16 = 0;
     while i < count {
         let e = entry_at(rows, i);
-        if is_later(e, day, minute, start) {
+        if takes_over(e, day, minute, best, start) {
             best = i + 1;
             start = e.start;
         }

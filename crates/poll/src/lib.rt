@@ -23,10 +23,7 @@ pub const NO_PERIOD: u8 = 12;
 fn good_number(lane: LaneCounts) -> u16
     ensures { λ r. ⌜ r ≡ cond (goodOf lane) 1 0 ⌝ }
 {
-    if lane.worked == period::TICKS_OF_A_PERIOD {
-        return 1;
-    }
-    0
+    if period::is_good(lane) { 1 } else { 0 }
 }
 
 // Writes the metered lanes' passages and greens begun over out from byte `at` on.

@@ -6,12 +6,12 @@ use mathlib.Core.List.{List}
 use mathlib.Core.Logic.{⊎-elim}
 use native.Mathlib.Nat.{eq-or-lt-of-le}
 use native.Mathlib.Omega.{arith}
-use borrow.Author.Tests.{le-ltb, ltb-false, leb-true}
-use lib.Dec.{ltb, eqb}
+use lib.Dec.{eqb}
 use lib.ListN.{getD}
-use Rattle.ranges.specs.declared.range.Range.{Range}
+use Rattle.numbers.specs.Within.{isWithin}
+use Rattle.numbers.proofs.WithinLaws.{ends}
 use Rattle.ranges.specs.declared.Section.{Section}
-use Rattle.ranges.specs.Ranges.{between, isWithin, rateRange}
+use Rattle.ranges.specs.Ranges.{rates, unused, rateRange}
 use Rattle.ranges.specs.Sections.{rangeOf, mayBeUnused, isGood, firstBad}
 
 -- The numbers before the first that is not allowed are allowed.
@@ -23,7 +23,7 @@ good-before k v i (suc n) j true e l h =
     (λ (q : i < j). good-before k v (i + 1) n j _ refl (omega arith) (rw e at h))
     (eq-or-lt-of-le l)
 
-used : (k : Section) (v : List ℕ) (j : ℕ) (a : Bool) → eqb (getD v j 0) 65535 ≡ a → mayBeUnused k j ≡ false → isGood k v j ≡ true
+used : (k : Section) (v : List ℕ) (j : ℕ) (a : Bool) → eqb (getD v j 0) unused ≡ a → mayBeUnused k j ≡ false → isGood k v j ≡ true
     → isWithin (rangeOf k v j) (getD v j 0) ≡ true
 unfolding isGood
 used k v j true e u h = let y = rw (e, u) at h in absurd (true≢false (cc))
@@ -33,15 +33,10 @@ used k v j false e u h = rw e at h
 pub within-before : (k : Section) (v : List ℕ) (n j : ℕ) → j < firstBad k v 0 n → mayBeUnused k j ≡ false → isWithin (rangeOf k v j) (getD v j 0) ≡ true
 within-before k v n j h u = used k v j _ refl u (good-before k v 0 n j _ refl (omega arith) h)
 
-ends-case : (g : Range) (x : ℕ) (a : Bool) → ltb x (g .low) ≡ a → isWithin g x ≡ true → (g .low ≤ x) × (x ≤ g .high)
-unfolding isWithin
-ends-case g x true e h = let y = rw e at h in absurd (true≢false (cc))
-ends-case g x false e h = (ltb-false x (g .low) e, leb-true x (g .high) (rw e at h))
-
-pub ends : (g : Range) (x : ℕ) → isWithin g x ≡ true → (g .low ≤ x) × (x ≤ g .high)
-ends g x h = ends-case g x _ refl h
-
 -- The rate of modes 2 and 3.
-pub rate-ends : (mode rate : ℕ) → 2 ≤ mode → isWithin (rateRange mode) rate ≡ true → (150 ≤ rate) × (rate ≤ 1800)
+pub rate-ends : (mode rate : ℕ) → 2 ≤ mode → mode ≤ 3 → isWithin (rateRange mode) rate ≡ true → (rates .low ≤ rate) × (rate ≤ rates .high)
 unfolding rateRange
-rate-ends mode rate h e = ends (between 150 1800) rate (rw (le-ltb mode 2 h) at e)
+rate-ends mode rate l h e =
+    ⊎-elim (λ (q : 2 ≡ mode). ends rates rate (rw (← q) at e))
+    (λ (q : 2 < mode). let r : mode ≡ 3 = omega arith in ends rates rate (rw r at e))
+    (eq-or-lt-of-le l)

@@ -1,27 +1,37 @@
 -- Document 01, 'The site file': the range of each number. Where a range depends on a number to the left, that number is a parameter.
 use Prim.Native.Nat.{ℕ}
-use mathlib.Core.Bool.{Bool, false, cond}
+use mathlib.Core.Bool.{cond, _||_}
 use mathlib.Core.List.{List, [], _∷_}
-use lib.Dec.{ltb, leb, eqb}
+use lib.Dec.{eqb}
 use lib.ListN.{getD}
-use Rattle.ranges.specs.declared.range.Range.{Range}
+use Rattle.numbers.specs.declared.Range.{Range}
+use Rattle.numbers.specs.Within.{between}
 
-abbrev pub between : ℕ → ℕ → Range
-between low high = record { low = low; high = high }
+-- "Else 0", "then 0"; and there is no number beyond a row.
+abbrev pub onlyZero : Range
+onlyZero = between 0 0
 
--- Whether a number is in a range, both ends included.
-unfoldable pub isWithin : Range → ℕ → Bool
-isWithin g x = cond (ltb x (g .low)) false (leb x (g .high))
+-- "Rate 150-1800 vehicles an hour per lane."
+abbrev pub rates : Range
+rates = between 150 1800
 
--- Lanes, service mode, vehicles per green, minimum green, maximum green, yellow, minimum red, startup warning, startup green,
--- startup yellow, startup red, shutdown red, maximum and minimum pre-metering green, mainline lanes.
-abbrev pub timingRanges : List Range
-timingRanges =
+-- "Level table 1-4."
+abbrev pub levelTables : Range
+levelTables = between 1 4
+
+-- "In flow, occupancy and speed alone, 65535 means unused."
+abbrev pub unused : ℕ
+unused = 65535
+
+-- Lanes, service mode, vehicles per green, minimum green; "maximum green, minimum green to 100"; yellow, minimum red, startup warning, startup
+-- green, startup yellow, startup red, shutdown red, maximum and minimum pre-metering green, mainline lanes.
+abbrev pub timingRanges : ℕ → List Range
+timingRanges minimumGreen =
     between 1 4
     ∷ between 0 1
     ∷ between 1 3
     ∷ between 10 100
-    ∷ between 10 100
+    ∷ between minimumGreen 100
     ∷ between 10 60
     ∷ between 10 100
     ∷ between 10 600
@@ -34,21 +44,20 @@ timingRanges =
     ∷ between 1 6
     ∷ []
 
--- "Maximum green, minimum green to 100": the low end of the fifth timing is the fourth timing.
 unfoldable pub timingRange : ℕ → ℕ → Range
-timingRange minimumGreen i = cond (eqb i 4) (between minimumGreen 100) (getD timingRanges i (between 0 0))
+timingRange minimumGreen i = getD (timingRanges minimumGreen) i onlyZero
 
--- "Rate 150-1800 vehicles an hour per lane in modes 2 and 3, else 0."
+-- A rate "in modes 2 and 3, else 0".
 unfoldable pub rateRange : ℕ → Range
-rateRange mode = cond (ltb mode 2) (between 0 0) (between 150 1800)
+rateRange mode = cond (eqb mode 2 || eqb mode 3) rates onlyZero
 
--- "Level table 1-4 in mode 3, else 0."
+-- A level table "in mode 3, else 0".
 unfoldable pub tableRange : ℕ → Range
-tableRange mode = cond (eqb mode 3) (between 1 4) (between 0 0)
+tableRange mode = cond (eqb mode 3) levelTables onlyZero
 
 -- Days, start minute, mode, rate, level table.
 unfoldable pub entryRange : ℕ → ℕ → Range
-entryRange mode j = getD (between 1 255 ∷ between 0 1439 ∷ between 0 3 ∷ rateRange mode ∷ tableRange mode ∷ []) j (between 0 0)
+entryRange mode j = getD (between 1 255 ∷ between 0 1439 ∷ between 0 3 ∷ rateRange mode ∷ tableRange mode ∷ []) j onlyZero
 
 -- The days of each month, 29 in February; there is no month 0.
 abbrev pub monthDays : List ℕ
@@ -60,15 +69,15 @@ dayOrWeekRange kind month = cond (eqb kind 1) (between 1 (getD monthDays month 0
 
 -- For kind 1 "then 0"; for kinds 2 and 3 "weekday 0-6".
 unfoldable pub weekdayRange : ℕ → Range
-weekdayRange kind = cond (eqb kind 1) (between 0 0) (between 0 6)
+weekdayRange kind = cond (eqb kind 1) onlyZero (between 0 6)
 
 -- Kind, month, day or week, weekday.
 unfoldable pub holidayRange : ℕ → ℕ → ℕ → Range
-holidayRange kind month j = getD (between 1 3 ∷ between 1 12 ∷ dayOrWeekRange kind month ∷ weekdayRange kind ∷ []) j (between 0 0)
+holidayRange kind month j = getD (between 1 3 ∷ between 1 12 ∷ dayOrWeekRange kind month ∷ weekdayRange kind ∷ []) j onlyZero
 
 -- Table, flow, occupancy, speed, rate.
 abbrev pub levelRanges : List Range
-levelRanges = between 1 4 ∷ between 1 3000 ∷ between 1 1000 ∷ between 1 250 ∷ between 150 1800 ∷ []
+levelRanges = levelTables ∷ between 1 3000 ∷ between 1 1000 ∷ between 1 250 ∷ rates ∷ []
 
 unfoldable pub levelRange : ℕ → Range
-levelRange j = getD levelRanges j (between 0 0)
+levelRange j = getD levelRanges j onlyZero

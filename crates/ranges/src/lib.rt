@@ -2,7 +2,7 @@
 // each number is in its range.
 mod range;
 
-use range::Range;
+use numbers::Range;
 ghost use mathlib.Core.Path.{_≡_};
 ghost use Prim.Native.Nat.{_<_};
 ghost use lib.ListN.{length};
@@ -10,7 +10,6 @@ ghost use Rattle.ranges.specs.Sections.{allowedOf, sizeOf, badNumberOf, 
 pub use range::UNUSED;
 pub use range::rate_range;
 pub use range::table_range;
-pub use range::within;
 
 // A section of the site file, in the file's order.
 pub enum Section {
@@ -20,15 +19,49 @@ pub enum Section {
     Levels,
 }
 
+// How many numbers make a row. The timings' count counts numbers.
+pub const ENTRY_WIDTH: usize = 5;
+
+pub const HOLIDAY_WIDTH: usize = 4;
+
+pub const LEVEL_WIDTH: usize = 5;
+
+// The counts: of timings all, of the others the greatest.
+pub const TIMINGS: u16 = 15;
+
+const MOST_ENTRIES: u16 = 16;
+
+const MOST_HOLIDAYS: u16 = 16;
+
+const MOST_LEVELS: u16 = 24;
+
+// The most numbers that a section can have.
+pub const MOST_TIMING_NUMBERS: usize = TIMINGS as usize;
+
+pub const MOST_ENTRY_NUMBERS: usize = MOST_ENTRIES as usize * ENTRY_WIDTH;
+
+pub const MOST_HOLIDAY_NUMBERS: usize = MOST_HOLIDAYS as usize * HOLIDAY_WIDTH;
+
+pub const MOST_LEVEL_NUMBERS: usize = MOST_LEVELS as usize * LEVEL_WIDTH;
+
+// A number out of range.
+const BAD_TIMING: u8 = 3;
+
+const BAD_ENTRY: u8 = 4;
+
+const BAD_HOLIDAY: u8 = 5;
+
+const BAD_LEVEL: u8 = 6;
+
 // Whether a section may have this count.
 pub fn allowed(section: Section, count: u16) -> bool
     ensures { λ r. ⌜ r ≡ allowedOf section count ⌝ }
 {
     match section {
-        Section::Timings => count == 15,
-        Section::Entries => count <= 16,
-        Section::Holidays => count <= 16,
-        Section::Levels => count <= 24,
+        Section::Timings => count == TIMINGS,
+        Section::Entries => count <= MOST_ENTRIES,
+        Section::Holidays => count <= MOST_HOLIDAYS,
+        Section::Levels => count <= MOST_LEVELS,
     }
 }
 
@@ -39,9 +72,9 @@ pub fn size(section: Section, count: u16) -> usize
     let n = count as usize;
     match section {
         Section::Timings => n,
-        Section::Entries => n * 5,
-        Section::Holidays => n * 4,
-        Section::Levels => n * 5,
+        Section::Entries => n * ENTRY_WIDTH,
+        Section::Holidays => n * HOLIDAY_WIDTH,
+        Section::Levels => n * LEVEL_WIDTH,
     }
 }
 
@@ -50,10 +83,10 @@ pub fn bad_number(section: Section) -> u8
     ensures { λ r. ⌜ r ≡ badNumberOf section ⌝ }
 {
     match section {
-        Section::Timings => 3,
-        Section::Entries => 4,
-        Section::Holidays => 5,
-        Section::Levels => 6,
+        Section::Timings => BAD_TIMING,
+        Section::Entries => BAD_ENTRY,
+        Section::Holidays => BAD_HOLIDAY,
+        Section::Levels => BAD_LEVEL,
     }
 }
 
@@ -64,18 +97,20 @@ fn range_at(section: Section, v: &[u16], i: usize) -> Range
     match section {
         Section::Timings => range::timing_range(numbers::number_at(v, 3), i),
         Section::Entries => {
-            let row = i - i % 5;
-            range::entry_range(numbers::number_at(v, row + 2), i % 5)
+            let column = i % ENTRY_WIDTH;
+            let row = i - column;
+            range::entry_range(numbers::number_at(v, row + 2), column)
         }
         Section::Holidays => {
-            let row = i - i % 4;
+            let column = i % HOLIDAY_WIDTH;
+            let row = i - column;
             range::holiday_range(
                 numbers::number_at(v, row),
                 numbers::number_at(v, row + 1),
-                i % 4,
+                column,
             )
         }
-        Section::Levels => range::level_range(i % 5),
+        Section::Levels => range::level_range(i % LEVEL_WIDTH),
     }
 }
 
@@ -86,7 +121,7 @@ fn may_be_unused(section: Section, i: usize) -> bool
         Section::Timings => false,
         Section::Entries => false,
         Section::Holidays => false,
-        Section::Levels => range::within(Range { low: 1, high: 3 }, (i % 5) as u16),
+        Section::Levels => numbers::within(Range { low: 1, high: 3 }, (i % LEVEL_WIDTH) as u16),
     }
 }
 
@@ -99,7 +134,7 @@ fn is_good(section: Section, v: &[u16], i: usize) -> bool
     if x == range::UNUSED {
         return may_be_unused(section, i);
     }
-    range::within(range_at(section, v, i), x)
+    numbers::within(range_at(section, v, i), x)
 }
 
 // The first of a section's numbers that is not allowed, or how many there are.

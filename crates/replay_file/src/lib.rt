@@ -4,10 +4,6 @@ mod lines;
 use lines::Run;
 use site::Site;
 
-// One more than the longest site file has. Of a longer file these bytes decide: see front-decides
-// in the crate site.
-const FRONT: usize = 567;
-
 // One read of the ticks. The run has ended where there are no more.
 fn read_some(site: Site, run: Run, fd: i32, out: &mut [u8]) -> Run {
     let mut bytes = io::large_buffer();
@@ -48,7 +44,7 @@ fn print_refusal(refusal: u8, place: usize) {
 // Replays the ticks of a file at the site of that name. A site file that is refused prints why; one
 // that cannot be read is reported on standard error.
 pub fn replay(name: &[u8], fd: i32) {
-    let mut file = [0u8; FRONT];
+    let mut file = [0u8; site_reader::FRONT];
     let input = file_input::read_file(name, &mut file);
     if input.failed {
         return;

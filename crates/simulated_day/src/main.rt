@@ -21,9 +21,6 @@ const TICKS: u32 = 864000;
 
 const SEED: u32 = 1;
 
-// The longest site file.
-const LONGEST: usize = 566;
-
 // A day so far.
 struct Day {
     state: State,
@@ -211,7 +208,7 @@ fn main() {
         run_samples();
         return;
     }
-    let mut file = [0u8; LONGEST];
+    let mut file = [0u8; site_reader::FRONT];
     let n = io::read_full(STDIN_FILENO, &mut file);
     let read = site_reader::read(&file[..n]);
     if read.refusal != 0 {

@@ -5,10 +5,10 @@ use mathlib.Core.Path.{_≡_, refl, ap, sym, _∙_}
 use mathlib.Core.Bool.{Bool, true, false}
 use mathlib.Core.List.{List, [], _∷_}
 use native.Mathlib.Omega.{arith}
-use borrow.Author.Tests.{ltb-true, ltb-false, ne-eqb}
-use lib.Dec.{ltb}
+use borrow.Author.Tests.{leb-true, leb-false, ltb-true, ltb-false, ne-eqb}
+use lib.Dec.{leb, ltb}
 use lib.ListN.{length, getD, take, drop}
-use lib.Seq.{length-take-le, getD-take, take-take}
+use lib.Seq.{length-take-le, take-all, getD-take, take-take}
 use Rattle.numbers.specs.Words.{words}
 use Rattle.numbers.proofs.WordLaws.{length-words, words-take}
 use Rattle.ranges.specs.declared.Section.{Section}
@@ -93,9 +93,9 @@ module _ (f : List ℕ) (long : 567 ≤ length f) where
   abbrev l : Found
   l = sectionOf Levels (length f) (words f) (h .next)
 
-  pub front-decides : readOf front ≡ readOf f
+  long-decides : readOf front ≡ readOf f
   unfolding readOf
-  front-decides =
+  long-decides =
       let st = section-of-front Timings 0 (omega arith) in
       let se = section-of-front Entries (t .next) (omega (arith, st .1)) in
       let sh = section-of-front Holidays (e .next) (omega (arith, st .1, se .1)) in
@@ -104,3 +104,11 @@ module _ (f : List ℕ) (long : 567 ≤ length f) where
       let whole : l .next * 2 ≡ length f → ⊥ = λ z. omega arith in
       let cut : l .next * 2 ≡ length front → ⊥ = λ z. omega (arith, length-take-le 567 f long) in
       rw (st .0, se .0, sh .0, sl .0, ne-eqb _ _ cut, ne-eqb _ _ whole)
+
+-- A shorter file is its own front.
+front-case : (f : List ℕ) (long : Bool) → leb 567 (length f) ≡ long → readOf (take 567 f) ≡ readOf f
+front-case f true e = long-decides f (leb-true 567 (length f) e)
+front-case f false e = ap readOf (take-all 567 f (omega (arith, leb-false 567 (length f) e)))
+
+pub front-decides : (f : List ℕ) → readOf (take 567 f) ≡ readOf f
+front-decides f = front-case f _ refl

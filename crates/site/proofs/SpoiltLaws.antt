@@ -10,7 +10,7 @@ use lib.Seq.{getD-take}
 use Rattle.loops.proofs.AnyLaws.{neither}
 use Rattle.ranges.specs.declared.Section.{Section}
 use Rattle.ranges.specs.declared.Section.the-variants.{Timings, Entries, Holidays, Levels}
-use Rattle.ranges.specs.Ranges.{isWithin}
+use Rattle.numbers.specs.Within.{isWithin}
 use Rattle.ranges.specs.Sections.{allowedOf, sizeOf, rangeOf, mayBeUnused, firstBad, zeros}
 use Rattle.ranges.proofs.RangeLaws.{within-before}
 use Rattle.site.specs.declared.Site.{Site}

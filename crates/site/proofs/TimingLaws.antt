@@ -6,9 +6,10 @@ use native.Mathlib.Omega.{arith}
 use lib.ListN.{getD}
 use lib.Seq.{getD-take}
 use Rattle.ranges.specs.declared.Section.the-variants.{Timings}
-use Rattle.ranges.specs.Ranges.{isWithin, timingRange}
+use Rattle.numbers.specs.Within.{isWithin}
+use Rattle.ranges.specs.Ranges.{timingRange}
 use Rattle.ranges.specs.Sections.{rangeOf, mayBeUnused}
-use Rattle.ranges.proofs.RangeLaws.{ends}
+use Rattle.numbers.proofs.WithinLaws.{ends}
 use Rattle.timings.specs.declared.Timings.{Timings as NamedTimings}
 use Rattle.site.specs.declared.Site.{Site}
 use Rattle.site.specs.Record.{spoiltSite}

@@ -7,7 +7,7 @@ use lib.ListN.{length, getD, take, drop, replicate}
 use Rattle.numbers.specs.Words.{words}
 use Rattle.ranges.specs.declared.Section.{Section}
 use Rattle.ranges.specs.declared.Section.the-variants.{Timings, Entries, Holidays, Levels}
-use Rattle.ranges.specs.Sections.{allowedOf, sizeOf, badNumberOf, firstBad}
+use Rattle.ranges.specs.Sections.{allowedOf, sizeOf, mostOf, badNumberOf, firstBad}
 use Rattle.site.specs.declared.Site.{Site}
 use Rattle.site.specs.declared.ReadSite.{ReadSite}
 use Rattle.site.specs.declared.Found.{Found}
@@ -37,16 +37,20 @@ sectionOf k len ws q =
     (refusedAt 2 (q * 2)))
     (refusedAt 1 len)
 
+-- A section of which the record has nothing.
+abbrev pub noneOf : Section → List ℕ
+noneOf k = replicate (mostOf k) 0
+
 -- "A site record of zeros."
 abbrev pub noSite : Site
 noSite = record {
-  timings = replicate 15 0;
+  timings = noneOf Timings;
   entries = 0;
-  plan = replicate 80 0;
+  plan = noneOf Entries;
   holidays = 0;
-  dates = replicate 64 0;
+  dates = noneOf Holidays;
   levels = 0;
-  tables = replicate 120 0;
+  tables = noneOf Levels;
 }
 
 -- "A refused file gives the number, its place and a site record of zeros."
@@ -78,13 +82,13 @@ readOf s =
       refusal = 0;
       place = 0;
       site = record {
-        timings = filledOf Timings ws 0 (replicate 15 0);
+        timings = filledOf Timings ws 0 (noneOf Timings);
         entries = e .count;
-        plan = filledOf Entries ws (t .next) (replicate 80 0);
+        plan = filledOf Entries ws (t .next) (noneOf Entries);
         holidays = h .count;
-        dates = filledOf Holidays ws (e .next) (replicate 64 0);
+        dates = filledOf Holidays ws (e .next) (noneOf Holidays);
         levels = l .count;
-        tables = filledOf Levels ws (h .next) (replicate 120 0);
+        tables = filledOf Levels ws (h .next) (noneOf Levels);
       };
     })
     (refused 7 (l .next * 2))))))

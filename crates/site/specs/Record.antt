@@ -9,7 +9,7 @@ use lib.Dec.{ltb}
 use lib.ListN.{length, take, drop}
 use Rattle.ranges.specs.declared.Section.{Section}
 use Rattle.ranges.specs.declared.Section.the-variants.{Timings, Entries, Holidays, Levels}
-use Rattle.ranges.specs.Sections.{allowedOf, sizeOf, firstBad, zeros}
+use Rattle.ranges.specs.Sections.{greatestOf, allowedOf, sizeOf, firstBad, zeros}
 use Rattle.site.specs.declared.Site.{Site}
 
 -- Of a section kept as the count n and the numbers v: the count is not allowed, a number is not, or what is beyond is not 0.
@@ -20,7 +20,7 @@ spoiltOf k n v =
 
 unfoldable pub spoiltSite : Site → Bool
 spoiltSite x =
-    spoiltOf Timings 15 (x .timings)
+    spoiltOf Timings (greatestOf Timings) (x .timings)
     || (spoiltOf Entries (x .entries) (x .plan)
     || (spoiltOf Holidays (x .holidays) (x .dates)
     || spoiltOf Levels (x .levels) (x .tables)))

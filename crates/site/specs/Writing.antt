@@ -6,7 +6,7 @@ use lib.ListN.{take}
 use Rattle.numbers.specs.Words.{bytes}
 use Rattle.ranges.specs.declared.Section.{Section}
 use Rattle.ranges.specs.declared.Section.the-variants.{Timings, Entries, Holidays, Levels}
-use Rattle.ranges.specs.Sections.{sizeOf}
+use Rattle.ranges.specs.Sections.{greatestOf, sizeOf}
 use Rattle.output.specs.declared.Written.{Written}
 use Rattle.output.specs.Output.{answerOf, bufferOf}
 use Rattle.site.specs.declared.Site.{Site}
@@ -19,7 +19,7 @@ partOf k n v = n ∷ take (sizeOf k n) v
 -- The four sections in their order.
 unfoldable pub wordsOf : Site → List ℕ
 wordsOf x =
-    partOf Timings 15 (x .timings)
+    partOf Timings (greatestOf Timings) (x .timings)
     ++ (partOf Entries (x .entries) (x .plan)
     ++ (partOf Holidays (x .holidays) (x .dates)
     ++ partOf Levels (x .levels) (x .tables)))

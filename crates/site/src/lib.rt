@@ -12,16 +12,16 @@ use timings::Timings;
 // All of a site file. A section's rows stand one behind the other; those beyond its count are 0.
 pub struct Site {
     // 15 timings
-    pub timings: [u16; 15],
+    pub timings: [u16; ranges::MOST_TIMING_NUMBERS],
     // how many plan entries, and their rows of 5: days, start, mode, rate, table
     pub entries: u16,
-    pub plan: [u16; 80],
+    pub plan: [u16; ranges::MOST_ENTRY_NUMBERS],
     // how many holidays, and their rows of 4: kind, month, day or week, weekday
     pub holidays: u16,
-    pub dates: [u16; 64],
+    pub dates: [u16; ranges::MOST_HOLIDAY_NUMBERS],
     // how many levels, and their rows of 5: table, flow, occupancy, speed, rate
     pub levels: u16,
-    pub tables: [u16; 120],
+    pub tables: [u16; ranges::MOST_LEVEL_NUMBERS],
 }
 
 // What reading a file gives: the refusal, or 0; its place; the record, of zeros where refused.
@@ -88,7 +88,8 @@ fn spoilt_section(section: Section, count: u16, v: &[u16]) -> bool
     if ranges::first_bad(section, &v[..k]) < k {
         return true;
     }
-    !ranges::all_zero(&v[k..])
+    let zeros_beyond = ranges::all_zero(&v[k..]);
+    !zeros_beyond
 }
 
 // Whether no file could give this record.
@@ -96,7 +97,7 @@ pub fn spoilt(site: Site) -> bool
     ensures { λ r. ⌜ r ≡ spoiltSite site ⌝ }
 {
     let timings = site.timings;
-    if spoilt_section(Section::Timings, 15, &timings) {
+    if spoilt_section(Section::Timings, ranges::TIMINGS, &timings) {
         return true;
     }
     let plan = site.plan;

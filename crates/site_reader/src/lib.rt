@@ -1,8 +1,9 @@
 // Reading a site file.
 ghost use mathlib.Core.Path.{_≡_};
 ghost use mathlib.Core.Bool.{false};
-ghost use Prim.Native.Nat.{_≤_};
-ghost use lib.ListN.{length};
+ghost use mathlib.Core.List.{List};
+ghost use Prim.Native.Nat.{ℕ, _≤_};
+ghost use lib.ListN.{length, take};
 ghost use Rattle.numbers.specs.Words.{words};
 ghost use Rattle.ranges.specs.Sections.{mostOf};
 ghost use Rattle.site.specs.Record.{spoiltSite};
@@ -21,6 +22,16 @@ pub const WRONG_COUNT: u8 = 2;
 
 // Bytes follow the last section.
 pub const LONG_FILE: u8 = 7;
+
+// One more than the longest site file has.
+pub const FRONT: usize = 567;
+
+// How many bytes of a file's front are enough: what reading them gives is what reading the file does.
+pub fn front() -> usize
+    ensures { λ r. ⌜ ((s : List ℕ) → readOf (take r s) ≡ readOf s) ⌝ }
+{
+    FRONT
+}
 
 fn not_found(refusal: u8, place: usize) -> Found
     ensures { λ r. ⌜ r ≡ refusedAt refusal place ⌝ }
@@ -72,13 +83,13 @@ fn no_site(refusal: u8, place: usize) -> ReadSite
         refusal,
         place,
         site: Site {
-            timings: [0u16; 15],
+            timings: [0u16; ranges::MOST_TIMING_NUMBERS],
             entries: 0,
-            plan: [0u16; 80],
+            plan: [0u16; ranges::MOST_ENTRY_NUMBERS],
             holidays: 0,
-            dates: [0u16; 64],
+            dates: [0u16; ranges::MOST_HOLIDAY_NUMBERS],
             levels: 0,
-            tables: [0u16; 120],
+            tables: [0u16; ranges::MOST_LEVEL_NUMBERS],
         },
     }
 }
@@ -89,22 +100,22 @@ pub fn read(src: &[u8]) -> ReadSite
     ensures is { λ r. ⌜ r ≡ readOf (now (src .entry)) ⌝ }
     ensures rewritten { λ r. ⌜ (r .refusal ≡ 0 → (spoiltSite (r .site) ≡ false) × (bytesOf (r .site) ≡ now (src .entry))) ⌝ }
 {
-    let mut timings = [0u16; 15];
+    let mut timings = [0u16; ranges::MOST_TIMING_NUMBERS];
     let t = read_section(src, Section::Timings, 0, &mut timings);
     if t.refusal != 0 {
         return no_site(t.refusal, t.place);
     }
-    let mut plan = [0u16; 80];
+    let mut plan = [0u16; ranges::MOST_ENTRY_NUMBERS];
     let e = read_section(src, Section::Entries, t.next, &mut plan);
     if e.refusal != 0 {
         return no_site(e.refusal, e.place);
     }
-    let mut dates = [0u16; 64];
+    let mut dates = [0u16; ranges::MOST_HOLIDAY_NUMBERS];
     let h = read_section(src, Section::Holidays, e.next, &mut dates);
     if h.refusal != 0 {
         return no_site(h.refusal, h.place);
     }
-    let mut tables = [0u16; 120];
+    let mut tables = [0u16; ranges::MOST_LEVEL_NUMBERS];
     let l = read_section(src, Section::Levels, h.next, &mut tables);
     if l.refusal != 0 {
         return no_site(l.refusal, l.place);

@@ -47,7 +47,7 @@ fn store_site(site: Site, out: &mut [u8]) -> usize
     let plan = site.plan;
     let dates = site.dates;
     let tables = site.tables;
-    let entries = store_section(out, 0, Section::Timings, 15, &timings);
+    let entries = store_section(out, 0, Section::Timings, ranges::TIMINGS, &timings);
     let holidays = store_section(out, entries, Section::Entries, site.entries, &plan);
     let levels = store_section(out, holidays, Section::Holidays, site.holidays, &dates);
     store_section(out, levels, Section::Levels, site.levels, &tables)

@@ -2,7 +2,7 @@
 use mathlib.Core.Path.{refl}
 use Rattle.worked_runs.specs.Run.{stateAfter, answerAt, releasesFrom, releases}
 use Rattle.tick.specs.Checks.{inputRefusal, tickRefusal}
-use Rattle.tick.specs.Timings.{timingsOf, timesOf}
+use Rattle.site.specs.Named.{timingsOf}
 use Rattle.tick.specs.Tick.{powerUpOf, countedIn, decidedIn, cycleIn, movedIn, acceptedTick, refusedTick, tickOf}
 use Rattle.waiting.specs.Bound.{turnTicks, waitingBound}
 use Rattle.tick.specs.Waiting.{atPowerUp, answerTo, isAccepted, onward, greenBegins}
@@ -21,22 +21,23 @@ use Rattle.period.specs.Range.{mostTicks, laneSpoilt as countsLaneSpoilt, meter
 use Rattle.wanted.specs.Decision.{dayOf, entryInForce, commandInForce, decisionOf}
 use Rattle.wanted.specs.Wish.{plannedOf, sourceOf, choiceOf}
 use Rattle.inputs.specs.Samples.{meteredBad, laneBad, samplesBad}
-use Rattle.inputs.specs.Commands.{commandBad, commandsBad}
+use Rattle.inputs.specs.Commands.{carriesNothing, commandBad, commandsBad}
 use Rattle.calendar.specs.Clock.{clockBad}
-use Rattle.calendar.specs.Dates.{isWithin as isWithinDates, daysBefore, monthLength, isDate, dayNumber, weekdayOf}
+use Rattle.calendar.specs.Dates.{daysBefore, monthLength, isDate, dayNumber, weekdayOf}
 use Rattle.site.specs.Record.{spoiltOf, spoiltSite}
-use Rattle.ranges.specs.Ranges.{isWithin, timingRange, rateRange, tableRange}
+use Rattle.numbers.specs.Within.{isWithin}
+use Rattle.ranges.specs.Ranges.{timingRange, rateRange, tableRange}
 use Rattle.ranges.specs.Sections.{rangeOf, isGood}
 use Rattle.site.specs.Reading.{sectionOf, readOf}
 use Rattle.site.specs.Writing.{wordsOf}
 use Rattle.calendar.specs.Days.{inMonth, todayOf, monthBefore, yesterdayOf}
-use Rattle.calendar.specs.Holidays.{isFloating, dayTypeOf, isNamed, isFixed}
+use Rattle.calendar.specs.Holidays.{isFloating, inWeek, dayTypeOf, isNamed, isFixed}
 use Rattle.levels.specs.Measures.{withLane, totalsOf, measuresOf}
 use Rattle.levels.specs.Levels.{reachesOf, isSlow, isMet}
 use Rattle.worked_runs.specs.Starred.{Starred}
 
 pub starred : Starred
-unfolding waitingBound turnTicks atPowerUp answerTo isAccepted onward greenBegins allDark cycleTicks roundedUp dayTypeOf isDate isWithinDates daysBefore monthLength dayNumber weekdayOf inMonth todayOf monthBefore yesterdayOf isFloating isFixed isNamed measuresOf totalsOf withLane goodOf isMet reachesOf isSlow wordsOf readOf sectionOf isGood rangeOf timingRange isWithin stateAfter answerAt releasesFrom releases inputRefusal tickRefusal timingsOf powerUpOf countedIn decidedIn cycleIn movedIn acceptedTick refusedTick tickOf stateSpoilt freshState allRed intervalOf lanesIn releasedIn groupOf lanesMoved movedWith movedOf colourShown lowerShown signShown laneShown indicationsOf ageOf timeOf successorOf nextInterval colourSpoilt laneSpoilt laneKept laneSpoiltAt lanesSpoilt groupSpoilt riseOf passagesOf greenEnds greenAt yellowAt laneTick laneOf lanesOf laneTickAt lanesTick laneEntered lanesEntered offsetTicks isReady readyAt anyGreen mayRelease nextLane releasedOf greenIf releaseOf laneCounted laneCountedAt passagesAt countedOf nextSerial closedOf afterTick greensAt greenCounted afterRelease noPeriods mostTicks countsLaneSpoilt meteredSpoilt countsSpoilt lastTicks periodsSpoilt dayOf entryInForce commandInForce decisionOf plannedOf sourceOf choiceOf meteredBad laneBad samplesBad commandBad commandsBad clockBad spoiltOf spoiltSite rateRange tableRange
+unfolding waitingBound turnTicks atPowerUp answerTo isAccepted onward greenBegins allDark cycleTicks roundedUp dayTypeOf isDate daysBefore monthLength dayNumber weekdayOf inMonth todayOf monthBefore yesterdayOf isFloating inWeek isFixed isNamed measuresOf totalsOf withLane goodOf isMet reachesOf isSlow wordsOf readOf sectionOf isGood rangeOf timingRange isWithin stateAfter answerAt releasesFrom releases inputRefusal tickRefusal timingsOf powerUpOf countedIn decidedIn cycleIn movedIn acceptedTick refusedTick tickOf stateSpoilt freshState allRed intervalOf lanesIn releasedIn groupOf lanesMoved movedWith movedOf colourShown lowerShown signShown laneShown indicationsOf ageOf timeOf successorOf nextInterval colourSpoilt laneSpoilt laneKept laneSpoiltAt lanesSpoilt groupSpoilt riseOf passagesOf greenEnds greenAt yellowAt laneTick laneOf lanesOf laneTickAt lanesTick laneEntered lanesEntered offsetTicks isReady readyAt anyGreen mayRelease nextLane releasedOf greenIf releaseOf laneCounted laneCountedAt passagesAt countedOf nextSerial closedOf afterTick greensAt greenCounted afterRelease noPeriods mostTicks countsLaneSpoilt meteredSpoilt countsSpoilt lastTicks periodsSpoilt dayOf entryInForce commandInForce decisionOf plannedOf sourceOf choiceOf meteredBad laneBad samplesBad carriesNothing commandBad commandsBad clockBad spoiltOf spoiltSite rateRange tableRange
 starred = record {
   cycle-600 = refl;
   cycle-700 = refl;

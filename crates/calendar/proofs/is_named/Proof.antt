@@ -1,6 +1,6 @@
 -- The row's kind decides, as in the definition.
 use Rattle.loops.proofs.Rules.{tests}
-use Rattle.calendar.specs.Holidays.{isNamed}
+use Rattle.calendar.specs.Holidays.{isFloating, isNamed}
 use borrow.Author.Needs.{needs}
 use Rattle.calendar.proofs.is_named.Statement.{statement}
 use Rattle.calendar.proofs.is_named.Tie as tie
@@ -12,23 +12,31 @@ returns : tie.Need-returns
 unfolding isNamed
 returns c = search (tests, c .is-fixed .ensures)
 
-is-floating-requires : tie.Need-is-floating-requires
-is-floating-requires c κs = search needs
-
 returns-2 : tie.Need-returns-2
-unfolding isNamed
-returns-2 c = search (tests, c .is-floating .ensures)
+unfolding isNamed isFloating
+returns-2 c = search tests
 
-is-floating-requires-2 : tie.Need-is-floating-requires-2
-is-floating-requires-2 c κs = search needs
+in-week-requires : tie.Need-in-week-requires
+in-week-requires c κs = search needs
 
 returns-3 : tie.Need-returns-3
-unfolding isNamed
-returns-3 c = search (tests, c .is-floating2 .ensures)
+unfolding isNamed isFloating
+returns-3 c = search (tests, c .in-week .ensures)
 
 returns-4 : tie.Need-returns-4
-unfolding isNamed
+unfolding isNamed isFloating
 returns-4 c = search tests
+
+in-week-requires-2 : tie.Need-in-week-requires-2
+in-week-requires-2 c κs = search needs
+
+returns-5 : tie.Need-returns-5
+unfolding isNamed isFloating
+returns-5 c = search (tests, c .in-week2 .ensures)
+
+returns-6 : tie.Need-returns-6
+unfolding isNamed isFloating
+returns-6 c = search tests
 
 pub is-named-spec : {M : Type 1} → statement M
 is-named-spec =
@@ -36,8 +44,10 @@ is-named-spec =
     (tie.spec
     is-fixed-requires
     returns
-    is-floating-requires
     returns-2
-    is-floating-requires-2
+    in-week-requires
     returns-3
-    returns-4)
+    returns-4
+    in-week-requires-2
+    returns-5
+    returns-6)

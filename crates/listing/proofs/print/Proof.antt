@@ -1,8 +1,10 @@
 -- The text is counted, then put where it fits.
-use Rattle.listing.specs.Timetable.{printedOf, textOf}
+use Rattle.listing.specs.Timetable.{printedOf, textOf, longestText}
+use Rattle.listing.proofs.Longest.{printed-most}
 use Rattle.text.proofs.PutLaws.{put-front}
 use Rattle.text.specs.Put.{farthest}
 use Rattle.output.proofs.OutputLaws.{too-small, accepted}
+use Rattle.output.specs.declared.Written.{Written}
 use Rattle.output.specs.Output.{acceptedWrite}
 use lib.ListN.{length}
 use Prim.Native.Nat.{_≤_, _<_}
@@ -16,6 +18,9 @@ use Rattle.listing.proofs.print.Tie as tie
 -- What was counted is the text of the file.
 is-text : (c : tie.After-read) → printedOf (c .read .result) ≡ textOf (now (c .before .before .before .args .file))
 is-text c = ap printedOf (c .read .ensures .0)
+
+short : (c : tie.After-read) → length (printedOf (c .read .result)) ≤ longestText
+short c = printed-most (c .read .result) (omega arith) (omega arith) (λ z. c .read .ensures .1 z .0)
 
 read-requires : tie.Need-read-requires
 read-requires c κs = search needs
@@ -35,7 +40,7 @@ returns c =
     let r = p .before .before in
     let a = r .before .before .before .args in
     let o = too-small (textOf (now (a .file))) (now (a .out)) (omega (arith, p .put-printed .ensures .next, ap length (is-text r))) in
-    (c .refused-write .ensures ∙ o .answers, o .leaves)
+    (c .refused-write .ensures ∙ o .answers, (o .leaves, λ h. absurd (omega (arith, p .put-printed .ensures .next, short r))))
 
 put-printed-requires-2 : tie.Need-put-printed-requires-2
 put-printed-requires-2 c κs = search needs
@@ -56,7 +61,7 @@ returns-2 c =
     let h : length (textOf (now (a .file))) ≤ length (now (a .out)) = omega (arith, p .put-printed .ensures .next, ap length (is-text r)) in
     let f = put-front s h (rw (is-text r) at (q .put-printed2 .ensures)) in
     let o = accepted (textOf (now (a .file))) (now (a .out)) h in
-    (c .accepted-write .ensures ∙ ap acceptedWrite (f .0) ∙ o .answers, f .1 ∙ o .leaves)
+    (c .accepted-write .ensures ∙ ap acceptedWrite (f .0) ∙ o .answers, (f .1 ∙ o .leaves, λ h. ap (λ (w : Written). w .refusal) (c .accepted-write .ensures)))
 
 pub print-spec : {M : Type 1} → statement M
 print-spec =

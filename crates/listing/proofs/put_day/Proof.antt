@@ -1,5 +1,6 @@
 -- The loop's invariant: whatever puts the day's lines from the next start on puts all of them.
 use Rattle.listing.proofs.Turns.{minutes-turn, minutes-end, skip}
+use Rattle.listing.proofs.NextStart.{NextStart, next-start-is}
 use Rattle.listing.specs.Timetable.{startingAt, minutesFrom}
 use Rattle.text.proofs.PutLaws.{put-turn, put-within, put-nothing}
 use Rattle.text.specs.Put.{Put, farthest}
@@ -28,9 +29,18 @@ next-start-requires c κs = search needs
 
 loop-holds : tie.Need-loop-holds Inv-loop μ-loop
 loop-holds c =
-    let n = c .next-start .ensures in
     let a = c .before .before .before .args in
+    let n = rw (← c .next-start .ensures) at (next-start-is (now (a .rows)) 0 (a .count) (search needs)) in
     (n .within, search needs, search needs, λ r d g. rw (skip (now (a .rows)) (a .count) (a .day) 0 _ n) g)
+
+-- The start after this one.
+then : (c : tie.After-next-start2 Inv-loop μ-loop)
+    → let h = c .before .before .before .before .before .before in
+    NextStart (now (h .before .before .before .before .args .rows)) (h .before .before .before .before .args .count) (h .loop .start + 1) (c .next-start2 .result)
+then c =
+    let h = c .before .before .before .before .before .before in
+    let a = h .before .before .before .before .args in
+    rw (← c .next-start2 .ensures) at (next-start-is (now (a .rows)) (h .loop .start + 1) (a .count) (search needs))
 
 put-starting-requires : tie.Need-put-starting-requires Inv-loop μ-loop
 put-starting-requires c κs = search needs
@@ -42,11 +52,11 @@ next-start-requires-2 : tie.Need-next-start-requires-2 Inv-loop μ-loop
 next-start-requires-2 c κs = search needs
 
 loop-less : tie.Need-loop-less Inv-loop μ-loop
-loop-less c = omega (arith, c .next-start2 .ensures .after)
+loop-less c = omega (arith, then c .after)
 
 loop-again : tie.Need-loop-again Inv-loop μ-loop
 loop-again c =
-    let n = c .next-start2 .ensures in
+    let n = then c in
     let p = c .before .before .before in
     let h = p .before .before .before in
     let a = h .before .before .before .before .args in (

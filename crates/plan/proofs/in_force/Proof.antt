@@ -1,7 +1,7 @@
 -- The loop's invariant: the search that is left, from what was found so far, ends as the whole does.
 use Rattle.plan.proofs.Turns.{takes, skips, ends}
 use Rattle.plan.proofs.InForceLaws.{is-in-force}
-use Rattle.plan.specs.InForce.{isLater, inForceFrom, inForceOf}
+use Rattle.plan.specs.InForce.{takesOver, inForceFrom, inForceOf}
 use Rattle.plan.specs.Entry.{entryOf}
 use Rattle.plan.specs.declared.Entry.{Entry}
 use Prim.Native.Nat.{_≤_, _<_, _-_}
@@ -25,8 +25,8 @@ loop-holds c = let n = c .before .args .count in let e : n - 0 ≡ n = omega ari
 entry-at-requires : tie.Need-entry-at-requires Inv-loop μ-loop
 entry-at-requires c κs = search needs
 
-is-later-requires : tie.Need-is-later-requires Inv-loop μ-loop
-is-later-requires c κs = search needs
+takes-over-requires : tie.Need-takes-over-requires Inv-loop μ-loop
+takes-over-requires c κs = search needs
 
 add-best : tie.Need-add-best Inv-loop μ-loop
 add-best c = search needs
@@ -43,8 +43,8 @@ loop-again c =
     let a = h .before .before .args in
     let e = c .before .before .entry-at .ensures in
     let l : h .loop .i < a .count = search needs in
-    let same : c .before .is-later .result ≡ isLater (entryOf (now (a .rows)) (h .loop .i)) (a .day) (a .minute) (h .loop .start) =
-    c .before .is-later .ensures ∙ ap (λ (x : Entry). isLater x (a .day) (a .minute) (h .loop .start)) e in (
+    let same : c .before .takes-over .result ≡ takesOver (entryOf (now (a .rows)) (h .loop .i)) (a .day) (a .minute) (h .loop .best) (h .loop .start) =
+    c .before .takes-over .ensures ∙ ap (λ (x : Entry). takesOver x (a .day) (a .minute) (h .loop .best) (h .loop .start)) e in (
       search needs,
       ⊎-elim
           (λ w. rw (w .1, w .2, ap (λ (x : Entry). x .start) e)
@@ -73,7 +73,7 @@ in-force-spec =
     μ-loop
     loop-holds
     entry-at-requires
-    is-later-requires
+    takes-over-requires
     add-best
     add-i
     loop-less

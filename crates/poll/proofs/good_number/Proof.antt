@@ -1,16 +1,16 @@
--- The code's test is the definition's.
-use Rattle.loops.proofs.Rules.{tests}
-use Rattle.period.specs.Counts.{goodOf}
+-- By what the test says.
+use borrow.Author.Needs.{needs}
 use Rattle.poll.proofs.good_number.Statement.{statement}
 use Rattle.poll.proofs.good_number.Tie as tie
 
+is-good-requires : tie.Need-is-good-requires
+is-good-requires c κs = search needs
+
 returns : tie.Need-returns
-unfolding goodOf
-returns c = search tests
+returns c = rw (← c .before .is-good .ensures, c .if1 .taken)
 
 returns-2 : tie.Need-returns-2
-unfolding goodOf
-returns-2 c = search tests
+returns-2 c = rw (← c .before .is-good .ensures, c .if1 .left)
 
 pub good-number-spec : {M : Type 1} → statement M
-good-number-spec = tie.close (tie.spec returns returns-2)
+good-number-spec = tie.close (tie.spec is-good-requires returns returns-2)

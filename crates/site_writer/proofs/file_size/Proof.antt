@@ -1,6 +1,5 @@
 -- The file's length by its four sections.
 use Rattle.site.proofs.WriteLaws.{length-file}
-use lib.ListN.{length}
 use native.Mathlib.Omega.{arith}
 use borrow.Author.Needs.{needs}
 use Rattle.site_writer.proofs.file_size.Statement.{statement}

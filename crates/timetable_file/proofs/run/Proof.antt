@@ -1,16 +1,15 @@
 -- What was read and what is printed each lie within their buffer.
-use Rattle.output.proofs.OutputLaws.{count-fits}
 use lib.Seq.{length-take-le}
-use lib.ListN.{length}
+use lib.ListN.{length, length-append}
 use Prim.Native.Nat.{_≤_}
-use mathlib.Core.Path.{sym}
+use mathlib.Core.Path.{ap, sym}
 use native.Mathlib.Omega.{arith}
 use borrow.Author.Needs.{needs}
 use Rattle.timetable_file.proofs.run.Statement.{statement}
 use Rattle.timetable_file.proofs.run.Tie as tie
 
-printed : (c : tie.After-print) → c .print .result .count ≤ length (c .print .last .1 .0)
-printed c = rw (c .print .kept .1 .0, c .print .ensures .0) (count-fits _ _ _)
+printed : (c : tie.After-print-whole) → c .print-whole .result ≤ length (c .print-whole .last .1 .0)
+printed c = let e = c .print-whole .ensures in omega (arith, e .0, simp length-append at (ap length (e .1)))
 
 slice-aggregate-read-file : tie.Need-slice-aggregate-read-file
 slice-aggregate-read-file c = search needs
@@ -21,26 +20,20 @@ read-file-requires c κs = search needs
 returns : tie.Need-returns
 returns c = search needs
 
-buffer-requires : tie.Need-buffer-requires
-buffer-requires c κs = search needs
-
 array-share-prefix-file : tie.Need-array-share-prefix-file
 array-share-prefix-file c = search needs
 
-slice-aggregate-print : tie.Need-slice-aggregate-print
-slice-aggregate-print c = let p = c .before .before .before .before in sym (length-take-le _ _ (omega (arith, p .read-file .ensures, p .read-file .kept .1 .0)))
+slice-aggregate-print-whole : tie.Need-slice-aggregate-print-whole
+slice-aggregate-print-whole c = let p = c .before .before .before in sym (length-take-le _ _ (omega (arith, p .read-file .ensures, p .read-file .kept .1 .0)))
 
-slice-aggregate-print-2 : tie.Need-slice-aggregate-print-2
-slice-aggregate-print-2 c = search needs
-
-print-requires : tie.Need-print-requires
-print-requires c κs = search needs
+print-whole-requires : tie.Need-print-whole-requires
+print-whole-requires c κs = search needs
 
 array-share-prefix-text : tie.Need-array-share-prefix-text
-array-share-prefix-text c = printed (c .before)
+array-share-prefix-text c = printed c
 
 slice-aggregate-write-all : tie.Need-slice-aggregate-write-all
-slice-aggregate-write-all c = sym (length-take-le _ _ (printed (c .before .before)))
+slice-aggregate-write-all c = sym (length-take-le _ _ (printed (c .before)))
 
 write-all-requires : tie.Need-write-all-requires
 write-all-requires c κs = search needs
@@ -64,11 +57,9 @@ run-spec =
     slice-aggregate-read-file
     read-file-requires
     returns
-    buffer-requires
     array-share-prefix-file
-    slice-aggregate-print
-    slice-aggregate-print-2
-    print-requires
+    slice-aggregate-print-whole
+    print-whole-requires
     array-share-prefix-text
     slice-aggregate-write-all
     write-all-requires

@@ -3,7 +3,7 @@ use Prim.Native.Nat.{_-_}
 use native.Mathlib.Omega.{arith}
 use borrow.Author.Tests.{eq-eqb, ne-eqb, lt-ltb, le-ltb}
 use Rattle.calendar.proofs.DateLaws.{table-most}
-use Rattle.calendar.specs.Dates.{table, daysBefore}
+use Rattle.calendar.specs.Dates.{daysBefore}
 use borrow.Author.Needs.{needs}
 use Rattle.calendar.proofs.day.days_before.Statement.{statement}
 use Rattle.calendar.proofs.day.days_before.Tie as tie

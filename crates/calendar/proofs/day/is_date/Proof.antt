@@ -1,7 +1,8 @@
 -- The code asks of year, month and day in turn what the definition asks.
 use mathlib.Core.Path.{sym, _∙_}
 use borrow.Author.Tests.{not-true, not-false}
-use Rattle.calendar.proofs.DateLaws.{within-low, within-high}
+use Rattle.numbers.specs.Within.{between}
+use Rattle.numbers.proofs.WithinLaws.{ends}
 use Rattle.calendar.specs.Dates.{isDate}
 use borrow.Author.Needs.{needs}
 use Rattle.calendar.proofs.day.is_date.Statement.{statement}
@@ -22,7 +23,7 @@ unfolding isDate
 returns-2 c = rw (sym (c .before .before .before .within .ensures) ∙ not-false _ (c .before .before .if1 .left), sym (c .before .within2 .ensures) ∙ not-true _ (c .if2 .taken))
 
 month-length-requires : tie.Need-month-length-requires
-month-length-requires c κs = let e = sym (c .before .within2 .ensures) ∙ not-false _ (c .if2 .left) in (within-low _ _ _ e, within-high _ _ _ e)
+month-length-requires c κs = let e = sym (c .before .within2 .ensures) ∙ not-false _ (c .if2 .left) in ends (between 1 12) _ e
 
 within-requires-3 : tie.Need-within-requires-3
 within-requires-3 c κs = search needs

@@ -1,5 +1,6 @@
 -- Each arm is the definition's column; beyond the row there is only 0.
-use Rattle.ranges.specs.Ranges.{between, dayOrWeekRange, weekdayRange, holidayRange}
+use Rattle.ranges.specs.Ranges.{onlyZero, dayOrWeekRange, weekdayRange, holidayRange}
+use Rattle.numbers.specs.Within.{between}
 use lib.ListN.{List·getD-eq-default}
 use mathlib.Core.List.{[], _∷_}
 use mathlib.Core.Path.{sym}
@@ -32,7 +33,7 @@ returns-4 c = rw (c .before .match .keys4) (c .weekday-range .ensures)
 
 returns-5 : tie.Need-returns-5
 unfolding holidayRange
-returns-5 c = let a = c .before .args in sym (List·getD-eq-default (between 1 3 ∷ between 1 12 ∷ dayOrWeekRange (a .kind) (a .month) ∷ weekdayRange (a .kind) ∷ []) (between 0 0) {n = a .j} (omega arith))
+returns-5 c = let a = c .before .args in sym (List·getD-eq-default (between 1 3 ∷ between 1 12 ∷ dayOrWeekRange (a .kind) (a .month) ∷ weekdayRange (a .kind) ∷ []) onlyZero {n = a .j} (omega arith))
 
 pub holiday-range-spec : {M : Type 1} → statement M
 holiday-range-spec =
