@@ -1,7 +1,7 @@
 -- What it tells of counts that they are in range, and that counting a tick keeps them so.
 use Prim.Native.Nat.{ℕ, zero, suc, _+_, _*_, _≤_, _<_}
-use mathlib.Core.Path.{_≡_, refl}
-use mathlib.Core.Bool.{Bool, true, false}
+use mathlib.Core.Path.{_≡_, refl, _∙_}
+use mathlib.Core.Bool.{Bool, true, false, cond}
 use native.Mathlib.Omega.{arith}
 use borrow.Author.Tests.{lt-ltb, le-ltb, ltb-true, ltb-false, ne-eqb, eqb-true}
 use lib.Dec.{ltb, eqb}
@@ -16,8 +16,8 @@ use Rattle.period.specs.declared.Counts.{Counts}
 use Rattle.period.specs.declared.LaneCounts.{LaneCounts}
 use Rattle.period.specs.declared.Periods.{Periods}
 use Rattle.period.specs.Counts.{laneOf, noCounts, noPeriods}
-use Rattle.period.specs.Range.{mostTicks, laneSpoilt, meteredSpoilt, countsSpoilt, lastTicks, periodsSpoilt}
-use Rattle.period.specs.Counting.{laneCounted, laneCountedAt, passagesAt, countedOf, nextSerial, closedOf, afterTick, LaneRoom, greensAt, greenCounted, afterRelease, GreensRoom}
+use Rattle.period.specs.Range.{laneSpoilt, laneKept, laneSpoiltAt, meteredSpoilt, meteredKept, meteredSpoiltAt, countsSpoilt, lastTicks, periodsSpoilt}
+use Rattle.period.specs.Counting.{speedOf, timedOf, laneCounted, laneCountedAt, passagesAt, countedOf, nextSerial, closedOf, afterTick, greensAt, greenCounted, afterRelease}
 
 -- A mainline lane's counts in range at so many ticks.
 pub record LaneGood (c : LaneCounts) (t : ℕ) : Type 0 where
@@ -46,9 +46,10 @@ pub good-lane : (c : LaneCounts) (t : ℕ) → LaneGood c t → laneSpoilt c t �
 unfolding laneSpoilt
 good-lane c t g = rw (le-ltb _ _ (g .worked), le-ltb _ _ (g .vehicles), le-ltb _ _ (g .occupied), le-ltb _ _ (g .timed), le-ltb _ _ (g .speeds))
 
--- A mainline lane's samples in range.
+-- A mainline lane's samples in range, and what its speed is then.
 pub record SampleGood (s : LaneSample) : Type 0 where
   pub occupied : s .occupied ≤ 100
+  pub vehicles : s .vehicles ≤ 1
   pub speed : s .speed ≤ 250
 
 pub sample-good : (s : LaneSample) → laneBad s ≡ false → SampleGood s
@@ -57,36 +58,72 @@ sample-good s e =
     let a = neither (ltb 1 (s .working)) _ e in
     let b = neither (ltb 100 (s .occupied)) _ (a .1) in
     let d = neither (ltb 1 (s .vehicles)) _ (b .1) in
-    record { occupied = ltb-false 100 (s .occupied) (b .0); speed = ltb-false 250 (s .speed) (d .1) }
+    record { occupied = ltb-false 100 (s .occupied) (b .0); vehicles = ltb-false 1 (s .vehicles) (d .0); speed = ltb-false 250 (s .speed) (d .1) }
 
--- A lane in range at fewer than 300 ticks has room for one tick more,
-pub lane-room : (c : LaneCounts) (s : LaneSample) (t : ℕ) → LaneGood c t → SampleGood s → t < 300 → LaneRoom c s
-lane-room c s t g h l = record {
+record SpeedGood (s : LaneSample) : Type 0 where
+  few : timedOf (speedOf s) ≤ s .vehicles
+  slow : speedOf s ≤ 250 * timedOf (speedOf s)
+
+speed-case : (s : LaneSample) (v z : Bool) → eqb (s .vehicles) 1 ≡ v → eqb (s .speed) 0 ≡ z → SampleGood s → SpeedGood s
+unfolding speedOf timedOf
+speed-case s false z ev ez h = record { few = rw ev (omega arith); slow = rw ev (omega arith) }
+speed-case s true true ev ez h = record { few = rw (ev, ez) (omega arith); slow = rw (ev, ez) (omega (arith, eqb-true (s .speed) 0 ez)) }
+speed-case s true false ev ez h = record { few = rw (ev, ez) (omega (arith, eqb-true (s .vehicles) 1 ev)); slow = rw (ev, ez) (omega (arith, h .speed)) }
+
+speed-good : (s : LaneSample) → SampleGood s → SpeedGood s
+speed-good s h = speed-case s _ _ refl refl h
+
+-- A lane in range at fewer than 300 ticks has room for one tick more: no number of the machine is too small,
+pub record LaneRoom (c : LaneCounts) (s : LaneSample) : Type 0 where
+  pub worked : c .worked < 300
+  pub vehicles : c .vehicles + s .vehicles ≤ 300
+  pub occupied : c .occupied + s .occupied ≤ 30000
+  pub timed : c .timed + timedOf (speedOf s) ≤ 300
+  pub speeds : c .speeds + speedOf s ≤ 75000
+
+pub lane-room : (c : LaneCounts) (s : LaneSample) → laneSpoilt c 299 ≡ false → laneBad s ≡ false → LaneRoom c s
+lane-room c s e f =
+    let g = lane-good c 299 e in
+    let h = sample-good s f in
+    let k = speed-good s h in
+    record {
+      worked = omega (arith, g .worked);
+      vehicles = omega (arith, g .vehicles, h .vehicles);
+      occupied = omega (arith, g .occupied, h .occupied);
+      timed = omega (arith, g .timed, g .vehicles, h .vehicles, k .few);
+      speeds = omega (arith, g .speeds, g .timed, g .vehicles, h .vehicles, k .few, k .slow);
+    }
+
+later-good : (c : LaneCounts) (t u : ℕ) → t ≤ u → LaneGood c t → LaneGood c u
+later-good c t u h g = record {
   worked = omega (arith, g .worked);
   vehicles = omega (arith, g .vehicles);
-  occupied = omega (arith, g .occupied, h .occupied);
-  timed = omega (arith, g .timed, g .vehicles);
-  speeds = omega (arith, g .speeds, g .timed, g .vehicles, h .speed);
+  occupied = omega (arith, g .occupied);
+  timed = g .timed;
+  speeds = g .speeds;
 }
 
 -- and is in range then.
-counted-case : (c : LaneCounts) (s : LaneSample) (t : ℕ) (w v z : Bool) → eqb (s .working) 1 ≡ w → eqb (s .vehicles) 1 ≡ v → eqb (s .speed) 0 ≡ z
-    → LaneGood c t → SampleGood s → LaneGood (laneCounted c s) (t + 1)
+counted-case : (c : LaneCounts) (s : LaneSample) (t : ℕ) (w : Bool) → eqb (s .working) 1 ≡ w → LaneGood c t → SampleGood s → LaneGood (laneCounted c s) (t + 1)
 unfolding laneCounted
-counted-case c s t false v z ew ev ez g h =
-    rw ew (record { worked = omega (arith, g .worked); vehicles = omega (arith, g .vehicles); occupied = omega (arith, g .occupied); timed = g .timed; speeds = g .speeds })
-counted-case c s t true false z ew ev ez g h =
-    rw (ew, ev)
-    (record { worked = omega (arith, g .worked); vehicles = omega (arith, g .vehicles); occupied = omega (arith, g .occupied, h .occupied); timed = g .timed; speeds = g .speeds })
-counted-case c s t true true true ew ev ez g h =
-    rw (ew, ev, ez)
-    (record { worked = omega (arith, g .worked); vehicles = omega (arith, g .vehicles); occupied = omega (arith, g .occupied, h .occupied); timed = omega (arith, g .timed); speeds = g .speeds })
-counted-case c s t true true false ew ev ez g h =
-    rw (ew, ev, ez)
-    (record { worked = omega (arith, g .worked); vehicles = omega (arith, g .vehicles); occupied = omega (arith, g .occupied, h .occupied); timed = omega (arith, g .timed); speeds = omega (arith, g .speeds, h .speed) })
+counted-case c s t false e g h = rw e (later-good c t (t + 1) (omega arith) g)
+counted-case c s t true e g h =
+    let k = speed-good s h in
+    rw e
+    (record {
+      worked = omega (arith, g .worked);
+      vehicles = omega (arith, g .vehicles, h .vehicles);
+      occupied = omega (arith, g .occupied, h .occupied);
+      timed = omega (arith, g .timed, k .few);
+      speeds = omega (arith, g .speeds, k .slow);
+    })
 
 pub counted-good : (c : LaneCounts) (s : LaneSample) (t : ℕ) → LaneGood c t → SampleGood s → LaneGood (laneCounted c s) (t + 1)
-counted-good c s t g h = counted-case c s t _ _ _ refl refl refl g h
+counted-good c s t g h = counted-case c s t _ refl g h
+
+-- At how many of a period's ticks lane i of k lanes can have been counted: beyond k at none.
+unfoldable pub mostTicks : ℕ → ℕ → ℕ → ℕ
+mostTicks i k t = cond (ltb i k) t 0
 
 most-in : (i k t : ℕ) → i < k → mostTicks i k t ≡ t
 unfolding mostTicks
@@ -110,29 +147,68 @@ good-metered : (a b t : ℕ) → a ≤ t → b ≤ t → meteredSpoilt a b t ≡
 unfolding meteredSpoilt
 good-metered a b t h k = rw (le-ltb _ _ h, le-ltb _ _ k)
 
-module _ (c : Counts) (n m t : ℕ) where
-  abbrev metered-bad : ℕ → Bool
-  metered-bad i = meteredSpoilt (getD (c .passages) i 0) (getD (c .greens) i 0) (mostTicks i n t)
+-- A lane of which nothing is kept is one in range at no tick.
+metered-none : (a b : ℕ) → meteredKept a b ≡ meteredSpoilt a b 0
+unfolding meteredKept meteredSpoilt
+metered-none a b = refl
 
-  abbrev lane-bad : ℕ → Bool
-  lane-bad j = laneSpoilt (laneOf c j) (mostTicks j m t)
+none-kept : (c : LaneCounts) → laneKept c ≡ false → LaneGood c 0
+unfolding laneKept
+none-kept c e =
+    let a = neither _ _ e in
+    let b = neither _ _ (a .1) in
+    let d = neither _ _ (b .1) in
+    let f = neither _ _ (d .1) in
+    let speeds = ltb-false 0 (c .speeds) (f .1) in
+    let timed = ltb-false 0 (c .timed) (f .0) in
+    record {
+      worked = ltb-false 0 (c .worked) (a .0);
+      vehicles = ltb-false 0 (c .vehicles) (b .0);
+      occupied = ltb-false 0 (c .occupied) (d .0);
+      timed = omega arith;
+      speeds = omega arith;
+    }
+
+kept-none : (c : LaneCounts) → LaneGood c 0 → laneKept c ≡ false
+unfolding laneKept
+kept-none c g =
+    let timed : c .timed ≤ 0 = omega (arith, g .timed, g .vehicles) in
+    let speeds : c .speeds ≤ 0 = omega (arith, g .speeds) in
+    rw (le-ltb _ _ (g .worked), le-ltb _ _ (g .vehicles), le-ltb _ _ (g .occupied), le-ltb _ _ timed, le-ltb _ _ speeds)
+
+module _ (c : Counts) (n m t : ℕ) where
+  -- Each lane, the site's and those beyond, is in range at the ticks that it can have been counted at.
+  metered-at : (i : ℕ) (b : Bool) → ltb i n ≡ b → meteredSpoiltAt c n t i ≡ meteredSpoilt (getD (c .passages) i 0) (getD (c .greens) i 0) (mostTicks i n t)
+  unfolding meteredSpoiltAt mostTicks
+  metered-at i true e = rw e
+  metered-at i false e = rw (e, metered-none _ _)
+
+  lane-at : (j : ℕ) (b : Bool) → ltb j m ≡ b → laneSpoiltAt c m t j ≡ false → LaneGood (laneOf c j) (mostTicks j m t)
+  unfolding laneSpoiltAt mostTicks
+  lane-at j true e f = rw e (lane-good (laneOf c j) t (rw e at f))
+  lane-at j false e f = rw e (none-kept (laneOf c j) (rw e at f))
+
+  at-lane : (j : ℕ) (b : Bool) → ltb j m ≡ b → LaneGood (laneOf c j) (mostTicks j m t) → laneSpoiltAt c m t j ≡ false
+  unfolding laneSpoiltAt mostTicks
+  at-lane j true e g = rw e (good-lane (laneOf c j) t (rw e at g))
+  at-lane j false e g = rw e (kept-none (laneOf c j) (rw e at g))
 
   pub counts-good : countsSpoilt c n m t ≡ false → CountsGood c n m t
   unfolding countsSpoilt
   counts-good e =
-      let s = neither (anyFrom metered-bad 0 4) (anyFrom lane-bad 0 6) e in
+      let s = neither (anyFrom (meteredSpoiltAt c n t) 0 4) (anyFrom (laneSpoiltAt c m t) 0 6) e in
       record {
-        passages = λ i h. metered-good _ _ _ (none-of metered-bad 0 4 (s .0) i (omega arith) (omega arith)) .0;
-        greens = λ i h. metered-good _ _ _ (none-of metered-bad 0 4 (s .0) i (omega arith) (omega arith)) .1;
-        lanes = λ j h. lane-good _ _ (none-of lane-bad 0 6 (s .1) j (omega arith) (omega arith));
+        passages = λ i h. metered-good _ _ _ (rw (metered-at i _ refl) at (none-of (meteredSpoiltAt c n t) 0 4 (s .0) i (omega arith) (omega arith))) .0;
+        greens = λ i h. metered-good _ _ _ (rw (metered-at i _ refl) at (none-of (meteredSpoiltAt c n t) 0 4 (s .0) i (omega arith) (omega arith))) .1;
+        lanes = λ j h. lane-at j _ refl (none-of (laneSpoiltAt c m t) 0 6 (s .1) j (omega arith) (omega arith));
       }
 
   pub good-counts : CountsGood c n m t → countsSpoilt c n m t ≡ false
   unfolding countsSpoilt
   good-counts g =
       rw (
-        any-of-none metered-bad 0 4 (λ i l h. good-metered _ _ _ (g .passages i (omega arith)) (g .greens i (omega arith))),
-        any-of-none lane-bad 0 6 (λ j l h. good-lane _ _ (g .lanes j (omega arith))),
+        any-of-none (meteredSpoiltAt c n t) 0 4 (λ i l h. metered-at i _ refl ∙ good-metered _ _ _ (g .passages i (omega arith)) (g .greens i (omega arith))),
+        any-of-none (laneSpoiltAt c m t) 0 6 (λ j l h. at-lane j _ refl (g .lanes j (omega arith))),
       )
 
 -- The samples in range.
@@ -153,13 +229,17 @@ module _ (lanes : Metered) (main : Mainline) (n m : ℕ) (e : samplesBad lanes m
       ltb-false 1 (getD (lanes .passage) i 0)
       (neither (ltb 1 (getD (lanes .demand) i 0)) (ltb 1 (getD (lanes .passage) i 0)) (none-of metered-sample-bad 0 n (both .0) i (omega arith) (omega arith)) .1)
 
+  main-bad : (j : ℕ) → j < m → laneBad (laneSampleOf main j) ≡ false
+  main-bad j h = none-of lane-sample-bad 0 m (both .1) j (omega arith) (omega arith)
+
   main-good : (j : ℕ) → j < m → SampleGood (laneSampleOf main j)
-  main-good j h = sample-good (laneSampleOf main j) (none-of lane-sample-bad 0 m (both .1) j (omega arith) (omega arith))
+  main-good j h = sample-good (laneSampleOf main j) (main-bad j h)
 
   -- Counts in range have room for the tick,
   module _ (c : Counts) (t : ℕ) (g : CountsGood c n m t) (l : t < 300) where
-    pub room-for-lane : (j : ℕ) → j < 6 → j < m → LaneRoom (laneOf c j) (laneSampleOf main j)
-    room-for-lane j h k = lane-room _ _ t (rw (most-in j m t k) at (g .lanes j h)) (main-good j k) l
+    pub room-for-lane : (j : ℕ) → j < 6 → j < m → (laneSpoilt (laneOf c j) 299 ≡ false) × (laneBad (laneSampleOf main j) ≡ false)
+    room-for-lane j h k =
+        (good-lane (laneOf c j) 299 (later-good (laneOf c j) t 299 (omega arith) (rw (most-in j m t k) at (g .lanes j h))), main-bad j k)
 
     pub room-for-passage : (i : ℕ) → i < 4 → i < n → getD (c .passages) i 0 + getD (lanes .passage) i 0 ≤ 300
     room-for-passage i h k = omega (arith, g .passages i h, most-in i n t k, passage-good i k)
@@ -307,17 +387,20 @@ unfolding mostTicks
 most-most i n t true e = rw e (omega arith)
 most-most i n t false e = rw e (omega arith)
 
-pub greens-room : (c : Counts) (n m t : ℕ) → t ≤ 300 → CountsGood c n m t → GreensRoom c
-greens-room c n m t h g = record { greens = λ i l. omega (arith, g .greens i l, most-most i n t _ refl) }
+greens-room : (c : Counts) (n m t : ℕ) → t ≤ 300 → CountsGood c n m t → (i : ℕ) → i < 4 → getD (c .greens) i 0 ≤ 300
+greens-room c n m t h g i l = omega (arith, g .greens i l, most-most i n t _ refl)
 
 last-most : (serial : ℕ) (b : Bool) → eqb serial 0 ≡ b → lastTicks serial ≤ 300
 unfolding lastTicks
 last-most serial true e = rw e (omega arith)
 last-most serial false e = rw e (omega arith)
 
-pub periods-room : (p : Periods) (n m : ℕ) → PeriodsGood p n m → GreensRoom (p .current) × GreensRoom (p .last)
-periods-room p n m g =
-    (greens-room (p .current) n m (p .ticks) (omega (arith, g .ticks)) (g .current), greens-room (p .last) n m (lastTicks (p .serial)) (last-most (p .serial) _ refl) (g .last))
+-- Greens in range have room for one more.
+pub periods-room : (p : Periods) (n m : ℕ) → PeriodsGood p n m → (i : ℕ) → i < 4 → (getD (p .current .greens) i 0 ≤ 300) × (getD (p .last .greens) i 0 ≤ 300)
+periods-room p n m g i h = (
+  greens-room (p .current) n m (p .ticks) (omega (arith, g .ticks)) (g .current) i h,
+  greens-room (p .last) n m (lastTicks (p .serial)) (last-most (p .serial) _ refl) (g .last) i h,
+)
 
 -- A tick and its release keep the periods in range.
 module _ (p : Periods) (lanes : Metered) (main : Mainline) (n m k : ℕ) (g : PeriodsGood p n m) (e : samplesBad lanes main n m ≡ false) (h : k ≤ n) where

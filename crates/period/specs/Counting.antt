@@ -13,15 +13,25 @@ use Rattle.period.specs.declared.LaneCounts.{LaneCounts}
 use Rattle.period.specs.declared.Periods.{Periods}
 use Rattle.period.specs.Counts.{laneOf, noCounts}
 
--- "Lanes not working add nothing." "A speed without a vehicle is ignored"; 0 is no speed.
+-- The speed of a vehicle, 0 for none: "a speed without a vehicle is ignored".
+unfoldable pub speedOf : LaneSample → ℕ
+speedOf s = cond (eqb (s .vehicles) 1) (s .speed) 0
+
+-- The vehicles of a tick that had a speed.
+unfoldable pub timedOf : ℕ → ℕ
+timedOf speed = cond (eqb speed 0) 0 1
+
+-- "Lanes not working add nothing."
 unfoldable pub laneCounted : LaneCounts → LaneSample → LaneCounts
 laneCounted c s =
     cond (eqb (s .working) 1)
-    (cond (eqb (s .vehicles) 1)
-    (cond (eqb (s .speed) 0)
-    (record { worked = c .worked + 1; vehicles = c .vehicles + 1; occupied = c .occupied + s .occupied; timed = c .timed; speeds = c .speeds })
-    (record { worked = c .worked + 1; vehicles = c .vehicles + 1; occupied = c .occupied + s .occupied; timed = c .timed + 1; speeds = c .speeds + s .speed }))
-    (record { worked = c .worked + 1; vehicles = c .vehicles; occupied = c .occupied + s .occupied; timed = c .timed; speeds = c .speeds }))
+    (record {
+      worked = c .worked + 1;
+      vehicles = c .vehicles + s .vehicles;
+      occupied = c .occupied + s .occupied;
+      timed = c .timed + timedOf (speedOf s);
+      speeds = c .speeds + speedOf s;
+    })
     c
 
 -- "Lanes beyond n or m are ignored."

@@ -6,15 +6,33 @@ ghost use lib.ListN.{getD};
 ghost use Rattle.inputs.specs.Samples.{laneSampleOf, laneBad, samplesBad};
 ghost use Rattle.period.specs.Counts.{laneOf, noCounts, noPeriods};
 ghost use Rattle.period.specs.Range.{laneSpoilt, periodsSpoilt};
-ghost use Rattle.period.specs.Counting.{greensAt, greenCounted, afterRelease, laneCounted, laneCountedAt, passagesAt, countedOf, nextSerial, closedOf, afterTick};
+ghost use Rattle.period.specs.Counting.{greensAt, greenCounted, afterRelease, speedOf, timedOf, laneCounted, laneCountedAt, passagesAt, countedOf, nextSerial, closedOf, afterTick};
 use crate::Counts;
 use crate::LaneCounts;
+use crate::MOST_OPEN_TICKS;
 use crate::Periods;
 use inputs::LaneSample;
 use inputs::Mainline;
 use inputs::Metered;
 
 const LAST_SERIAL: u32 = 4294967295;
+
+// The speed of a vehicle, 0 for none; a speed without a vehicle is ignored.
+fn speed_of(s: LaneSample) -> u16
+    ensures { λ r. ⌜ r ≡ speedOf s ⌝ }
+{
+    if s.vehicles != 1 {
+        return 0;
+    }
+    s.speed
+}
+
+// 1 for a speed that there is.
+fn timed_of(speed: u16) -> u16
+    ensures { λ r. ⌜ r ≡ timedOf speed ⌝ }
+{
+    if speed == 0 { 0 } else { 1 }
+}
 
 // One mainline lane's counts with a tick's samples.
 fn lane_counted(c: LaneCounts, s: LaneSample) -> LaneCounts
@@ -24,30 +42,13 @@ fn lane_counted(c: LaneCounts, s: LaneSample) -> LaneCounts
     if s.working != 1 {
         return c;
     }
-    if s.vehicles != 1 {
-        return LaneCounts {
-            worked: c.worked + 1,
-            vehicles: c.vehicles,
-            occupied: c.occupied + s.occupied,
-            timed: c.timed,
-            speeds: c.speeds,
-        };
-    }
-    if s.speed == 0 {
-        return LaneCounts {
-            worked: c.worked + 1,
-            vehicles: c.vehicles + 1,
-            occupied: c.occupied + s.occupied,
-            timed: c.timed,
-            speeds: c.speeds,
-        };
-    }
+    let speed = speed_of(s);
     LaneCounts {
         worked: c.worked + 1,
-        vehicles: c.vehicles + 1,
+        vehicles: c.vehicles + s.vehicles,
         occupied: c.occupied + s.occupied,
-        timed: c.timed + 1,
-        speeds: c.speeds + s.speed as u32,
+        timed: c.timed + timed_of(speed),
+        speeds: c.speeds + speed as u32,
     }
 }
 
@@ -147,7 +148,7 @@ fn closed(p: Periods, c: Counts) -> Periods
     ensures { λ r. ⌜ r ≡ closedOf p c ⌝ }
 {
     let last = p.last;
-    if p.ticks < crate::TICKS_OF_A_PERIOD - 1 {
+    if p.ticks < MOST_OPEN_TICKS {
         return Periods {
             ticks: p.ticks + 1,
             current: c,

@@ -43,6 +43,9 @@ pub struct LaneCounts {
 // How many accepted ticks a period has.
 pub const TICKS_OF_A_PERIOD: u16 = 300;
 
+// The most that the open one has.
+const MOST_OPEN_TICKS: u16 = TICKS_OF_A_PERIOD - 1;
+
 // Mainline lane j's counts, the first lane being 0; all 0 past the sixth.
 pub fn lane_counts(c: Counts, j: u16) -> LaneCounts
     ensures { λ r. ⌜ r ≡ laneOf c j ⌝ }

@@ -5,6 +5,7 @@ ghost use Rattle.loops.specs.Any.{anyFrom};
 ghost use Rattle.period.specs.Range.{laneSpoilt, laneKept, laneSpoiltAt, meteredSpoilt, meteredKept, meteredSpoiltAt, countsSpoilt, lastTicks, periodsSpoilt};
 use crate::Counts;
 use crate::LaneCounts;
+use crate::MOST_OPEN_TICKS;
 use crate::Periods;
 use crate::TICKS_OF_A_PERIOD;
 
@@ -135,7 +136,7 @@ fn last_ticks(serial: u32) -> u16
 pub fn periods_spoilt(p: Periods, n: u16, m: u16) -> bool
     ensures { λ r. ⌜ r ≡ periodsSpoilt p n m ⌝ }
 {
-    if TICKS_OF_A_PERIOD <= p.ticks {
+    if MOST_OPEN_TICKS < p.ticks {
         return true;
     }
     let current = p.current;

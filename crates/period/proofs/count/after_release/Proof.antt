@@ -1,7 +1,6 @@
 -- The green enters the open period, or the one just closed.
 use Rattle.period.specs.Counting.{afterRelease}
 use borrow.Author.Tests.{eq-eqb, ne-eqb}
-use borrow.Author.Needs.{needs}
 use Rattle.period.proofs.count.after_release.Statement.{statement}
 use Rattle.period.proofs.count.after_release.Tie as tie
 
@@ -10,14 +9,14 @@ unfolding afterRelease
 returns c = rw (eq-eqb _ _ (c .if1 .taken))
 
 green-counted-requires : tie.Need-green-counted-requires
-green-counted-requires c κs = search needs
+green-counted-requires c κs = λ i h. c .before .before .before .before .before .pre i h .1
 
 returns-2 : tie.Need-returns-2
 unfolding afterRelease
 returns-2 c = rw (ne-eqb _ _ (c .before .before .before .before .before .if1 .left), eq-eqb _ _ (c .before .if2 .taken), c .green-counted .ensures)
 
 green-counted-requires-2 : tie.Need-green-counted-requires-2
-green-counted-requires-2 c κs = search needs
+green-counted-requires-2 c κs = λ i h. c .before .before .before .before .before .pre i h .0
 
 returns-3 : tie.Need-returns-3
 unfolding afterRelease

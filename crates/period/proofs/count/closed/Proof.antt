@@ -5,11 +5,8 @@ use borrow.Author.Needs.{needs}
 use Rattle.period.proofs.count.closed.Statement.{statement}
 use Rattle.period.proofs.count.closed.Tie as tie
 
-sub-if1 : tie.Need-sub-if1
-sub-if1 c = search needs
-
-add-t6 : tie.Need-add-t6
-add-t6 c = search needs
+add-t5 : tie.Need-add-t5
+add-t5 c = search needs
 
 returns : tie.Need-returns
 unfolding closedOf
@@ -23,8 +20,7 @@ next-serial-requires c κs = search needs
 
 returns-2 : tie.Need-returns-2
 unfolding closedOf
-returns-2 c = rw (le-ltb _ _ (c .before .before .if1 .left), c .before .no-counts .ensures, c .next-serial .ensures)
+returns-2 c = rw (le-ltb _ _ (c .before .before .if1 .left), c .next-serial .ensures, c .before .no-counts .ensures)
 
 pub closed-spec : {M : Type 1} → statement M
-closed-spec =
-    tie.close (tie.spec sub-if1 add-t6 returns no-counts-requires next-serial-requires returns-2)
+closed-spec = tie.close (tie.spec add-t5 returns no-counts-requires next-serial-requires returns-2)
