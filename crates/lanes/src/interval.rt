@@ -8,6 +8,9 @@ use crate::RED;
 use crate::YELLOW;
 use timings::Timings;
 
+// Where the passages of a green stop.
+const MOST_PASSAGES: u16 = 3;
+
 // One more, to 720 at most.
 pub fn rise(x: u16) -> u16
     ensures { λ r. ⌜ r ≡ riseOf x ⌝ }
@@ -22,7 +25,7 @@ fn passages_of(count: u16, passage: u16) -> u16
     if passage != 1 {
         return count;
     }
-    if count < 3 {
+    if count < MOST_PASSAGES {
         return count + 1;
     }
     count

@@ -1,6 +1,6 @@
 -- Document 01, 'Lanes in metering': which lane a tick in interval 7 releases, and what the release does. Lanes are numbered from 1, and 0 is
 -- none.
-use Prim.Native.Nat.{ℕ, _-_}
+use Prim.Native.Nat.{ℕ, _+_, _-_}
 use mathlib.Core.Bool.{Bool, cond, not, _&&_}
 use mathlib.Core.List.{List}
 use lib.Dec.{leb, eqb}
@@ -11,7 +11,7 @@ use Rattle.timings.specs.declared.Timings.{Timings}
 use Rattle.lanes.specs.declared.Lane.{Lane}
 use Rattle.lanes.specs.declared.Lanes.{Lanes}
 use Rattle.lanes.specs.Intervals.{lane}
-use Rattle.lanes.specs.Lanes.{laneOf, lanesOf}
+use Rattle.lanes.specs.Lanes.{laneOf, eachLane}
 use Rattle.release.specs.Cycle.{offsetTicks}
 
 -- "A lane is ready if red at least the minimum, in demand, and at least a cycle from its last green's start."
@@ -38,12 +38,4 @@ greenIf released k l = cond (eqb released k) (lane 3 0 0 0) l
 
 -- "A release sets that lane's cycle counter and passage count and the offset counter to 0."
 unfoldable pub releaseOf : Lanes → ℕ → Lanes
-releaseOf s released =
-    cond (eqb released 0) s
-    (lanesOf
-    (greenIf released 1 (laneOf s 0))
-    (greenIf released 2 (laneOf s 1))
-    (greenIf released 3 (laneOf s 2))
-    (greenIf released 4 (laneOf s 3))
-    0
-    released)
+releaseOf s released = cond (eqb released 0) s (eachLane (λ i. greenIf released (i + 1) (laneOf s i)) 0 released)

@@ -1,6 +1,6 @@
 -- The waiting bound: the group's rank falls at each accepted tick of a run that does not release the waiting lane, and a refused tick changes
 -- nothing.
-use Prim.Native.Nat.{ℕ, zero, suc, _+_, _-_, _≤_, _<_, max, min}
+use Prim.Native.Nat.{ℕ, _+_, _-_, _≤_, _<_, max, min}
 use mathlib.Core.Path.{_≡_, refl, sym, _∙_, ap, subst}
 use mathlib.Core.Bool.{true, false, true≢false}
 use native.Mathlib.Omega.{arith}
@@ -15,6 +15,7 @@ use Rattle.site.specs.Named.{timingsOf, meteredLanes, shapeOf}
 use Rattle.site.proofs.TimingLaws.{timings-good}
 use Rattle.timings.specs.declared.Timings.{Timings}
 use Rattle.loops.proofs.Cases.{by-test}
+use Rattle.loops.proofs.EachLaws.{at-four}
 use Rattle.release.proofs.CycleLaws.{up-grows}
 use Rattle.group.specs.declared.Group.{Group}
 use Rattle.group.specs.declared.indication.Indications.{Indications}
@@ -63,11 +64,7 @@ module _ (c : Course) (call : Call) where
 -- What lane j shows.
 colours-at : (g : Group) (n j : ℕ) → j < 4 → getD (indicationsOf g n .colours) j 0 ≡ laneShown g n j
 unfolding indicationsOf
-colours-at g n zero h = refl
-colours-at g n (suc zero) h = refl
-colours-at g n (suc (suc zero)) h = refl
-colours-at g n (suc (suc (suc zero))) h = refl
-colours-at g n (suc (suc (suc (suc j)))) h = absurd (omega arith)
+colours-at g n j h = at-four (laneShown g n) j h
 
 -- The bound grows with the cycle.
 bound-grows : (t : Timings) → Sound t → (a b : ℕ) → a ≤ b → waitingBound t a ≤ waitingBound t b
