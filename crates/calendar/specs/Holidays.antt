@@ -42,7 +42,11 @@ abbrev pub isHoliday : Day → Day → List ℕ → ℕ → Bool
 isHoliday today yesterday rows zero = false
 isHoliday today yesterday rows (suc n) = isNamed today yesterday (rowOf rows n) || isHoliday today yesterday rows n
 
--- 0 Sunday to 6 Saturday, 7 Holiday: "A holiday has day type Holiday and no other." 8 where there is no such date.
+-- What stands for the day type where there is no day.
+abbrev pub noDay : ℕ
+noDay = 8
+
+-- 0 Sunday to 6 Saturday, 7 Holiday: "A holiday has day type Holiday and no other." No day where there is no such date.
 unfoldable pub dayTypeOf : Date → List ℕ → ℕ → ℕ
 dayTypeOf date rows count =
-    cond (isDate date) (cond (isHoliday (todayOf date) (yesterdayOf date) rows count) 7 (weekdayOf date)) 8
+    cond (isDate date) (cond (isHoliday (todayOf date) (yesterdayOf date) rows count) 7 (weekdayOf date)) noDay

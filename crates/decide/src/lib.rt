@@ -32,7 +32,7 @@ fn refusal_of(site: Site, state: State, clock: Clock, manual: Command, centre: C
     0
 }
 
-// What is decided, or why it is not: the decision is then that of no entry, dark.
+// What is decided, or why it is not: the decision then has no day and no entry, and is dark.
 pub fn decide(site: Site, state: State, clock: Clock, manual: Command, centre: Command) -> Decided
     ensures { λ r. ⌜ r ≡ decidedOf site state clock manual centre ⌝ }
 {

@@ -1,31 +1,29 @@
 -- Document 01, 'What is wanted': "A lane is good if it worked at all 300. Over good lanes, rounded down: flow = vehicles × 120 ÷ lanes;
 -- occupancy = occupied ms ÷ (30 × lanes); mean speed = sum of speeds ÷ vehicles that had one."
 use Prim.Native.Nat.{ℕ, zero, suc, _+_, _*_, _/_}
-use mathlib.Core.Bool.{cond, _&&_}
-use lib.Dec.{ltb}
+use mathlib.Core.Bool.{cond}
+use lib.Dec.{ltb, eqb}
 use Rattle.period.specs.declared.Counts.{Counts}
 use Rattle.period.specs.declared.LaneCounts.{LaneCounts}
 use Rattle.period.specs.Counts.{laneOf, goodOf}
 use Rattle.levels.specs.declared.measure.Totals.{Totals}
 use Rattle.levels.specs.declared.measure.Measures.{Measures}
+use Rattle.levels.specs.declared.measure.Measured.{Measured}
+use Rattle.levels.specs.declared.measure.Measured.the-variants.{NoGoodLane, Over}
 
-abbrev pub noTotals : Totals
-noTotals = record { lanes = 0; vehicles = 0; occupied = 0; timed = 0; speeds = 0 }
-
--- The totals with lane j of m, if it is good.
-unfoldable pub withLane : Totals → LaneCounts → ℕ → ℕ → Totals
-withLane t c m j =
-    cond (ltb j m && goodOf c)
-    (record { lanes = t .lanes + 1; vehicles = t .vehicles + c .vehicles; occupied = t .occupied + c .occupied; timed = t .timed + c .timed; speeds = t .speeds + c .speeds })
-    t
-
--- The totals over the good ones of the next k lanes from lane j on.
-abbrev pub totalsFrom : Counts → ℕ → Totals → ℕ → ℕ → Totals
-totalsFrom c m t j zero = t
-totalsFrom c m t j (suc k) = totalsFrom c m (withLane t (laneOf c j) m j) (j + 1) k
+-- The sum over the good ones of the first m mainline lanes of what is asked of each.
+abbrev pub overGood : Counts → (LaneCounts → ℕ) → ℕ → ℕ
+overGood c f zero = 0
+overGood c f (suc m) = overGood c f m + cond (goodOf (laneOf c m)) (f (laneOf c m)) 0
 
 unfoldable pub totalsOf : Counts → ℕ → Totals
-totalsOf c m = totalsFrom c m noTotals 0 6
+totalsOf c m = record {
+  lanes = overGood c (λ (l : LaneCounts). 1) m;
+  vehicles = overGood c (λ (l : LaneCounts). l .vehicles) m;
+  occupied = overGood c (λ (l : LaneCounts). l .occupied) m;
+  timed = overGood c (λ (l : LaneCounts). l .timed) m;
+  speeds = overGood c (λ (l : LaneCounts). l .speeds) m;
+}
 
 -- Where there is a good lane; without a vehicle that had a speed the mean speed is not known.
 unfoldable pub measuresOf : Totals → Measures
@@ -35,3 +33,7 @@ measuresOf t = record {
   known = ltb 0 (t .timed);
   speed = cond (ltb 0 (t .timed)) (t .speeds / t .timed) 0;
 }
+
+-- What a period's counts measured on m mainline lanes.
+unfoldable pub measuredOf : Counts → ℕ → Measured
+measuredOf c m = cond (eqb (totalsOf c m .lanes) 0) NoGoodLane (Over (measuresOf (totalsOf c m)))

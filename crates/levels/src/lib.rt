@@ -2,12 +2,10 @@
 mod measure;
 
 ghost use mathlib.Core.Path.{_≡_};
-ghost use mathlib.Core.Bool.{cond};
-ghost use Rattle.levels.specs.Levels.{levelOf, reachesOf, isSlow, isMet, decides, decidingOf};
+ghost use Rattle.levels.specs.Levels.{levelOf, reachesOf, isSlow, isMet, decides, decidingOf, ListedLast};
+pub use measure::Measured;
 pub use measure::Measures;
-pub use measure::Totals;
-pub use measure::lane_totals;
-pub use measure::measured;
+pub use measure::measured_on;
 
 // One level of a level table.
 pub struct Level {
@@ -26,7 +24,7 @@ pub struct Level {
 pub fn level_at(rows: &[u16], i: u16) -> Level
     ensures { λ r. ⌜ r ≡ levelOf (now (rows .entry)) i ⌝ }
 {
-    let at = (i as usize) * 5;
+    let at = (i as usize) * ranges::LEVEL_WIDTH;
     Level {
         table: numbers::number_at(rows, at),
         flow: numbers::number_at(rows, at + 1),
@@ -59,6 +57,7 @@ fn is_slow(threshold: u16, known: bool, speed: u64) -> bool
     speed <= threshold as u64
 }
 
+// Whether one of a level's thresholds in use is reached.
 fn is_met(l: Level, q: Measures) -> bool
     ensures { λ r. ⌜ r ≡ isMet l q ⌝ }
 {
@@ -71,6 +70,7 @@ fn is_met(l: Level, q: Measures) -> bool
     is_slow(l.speed, q.known, q.speed)
 }
 
+// Whether a level is of a table, and met.
 fn decides_for(l: Level, table: u16, q: Measures) -> bool
     ensures { λ r. ⌜ r ≡ decides l table q ⌝ }
 {
@@ -80,23 +80,19 @@ fn decides_for(l: Level, table: u16, q: Measures) -> bool
     is_met(l, q)
 }
 
-// The later of two places: the second, if it decides.
-fn later(best: u16, place: u16, decides: bool) -> u16
-    ensures { λ r. ⌜ r ≡ cond decides place best ⌝ }
-{
-    if decides { place } else { best }
-}
-
-// The place from 1 of the level that decides; 0 for none.
+// The place from 1 of the level of a table that decides, the one listed last among those met; 0 for
+// none.
 pub fn deciding(rows: &[u16], count: u16, table: u16, q: Measures) -> u16
-    ensures { λ r. ⌜ r ≡ decidingOf (now (rows .entry)) count table q ⌝ }
+    ensures is { λ r. ⌜ r ≡ decidingOf (now (rows .entry)) count table q ⌝ }
+    ensures last { λ r. ⌜ ListedLast (now (rows .entry)) count table q r ⌝ }
 {
-    let mut best: u16 = 0;
-    let mut i: u16 = 0;
-    while i < count {
-        let l = level_at(rows, i);
-        best = later(best, i + 1, decides_for(l, table, q));
-        i += 1;
+    let mut place = count;
+    while 0 < place {
+        let l = level_at(rows, place - 1);
+        if decides_for(l, table, q) {
+            return place;
+        }
+        place -= 1;
     }
-    best
+    0
 }

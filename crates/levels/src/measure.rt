@@ -1,18 +1,18 @@
 // What the last completed period measured over its good lanes.
 ghost use mathlib.Core.Path.{_≡_};
-ghost use Prim.Native.Nat.{_+_, _≤_, _<_};
-ghost use Rattle.levels.specs.Measures.{noTotals, withLane, totalsOf, measuresOf};
-ghost use Rattle.levels.specs.Room.{Small, Grown};
+ghost use Prim.Native.Nat.{_*_, _≤_};
+ghost use Rattle.levels.specs.Measures.{totalsOf, measuredOf};
 use period::Counts;
-use period::LaneCounts;
 
 // Sums over the good lanes.
-pub struct Totals {
-    pub lanes: u64,
-    pub vehicles: u64,
-    pub occupied: u64,
-    pub timed: u64,
-    pub speeds: u64,
+struct Totals {
+    lanes: u64,
+    vehicles: u64,
+    // milliseconds
+    occupied: u64,
+    // vehicles that had a speed, and the sum of their speeds
+    timed: u64,
+    speeds: u64,
 }
 
 pub struct Measures {
@@ -25,66 +25,65 @@ pub struct Measures {
     pub speed: u64,
 }
 
-// The totals with lane j of m, if it is good.
-fn with_lane(t: Totals, c: LaneCounts, m: u16, j: u16) -> Totals
-    requires { ⌜ Small t 1000000000000 ⌝ }
-    ensures is { λ r. ⌜ r ≡ withLane t c m j ⌝ }
-    ensures grown { λ r. ⌜ Grown t r ⌝ }
-{
-    if m <= j {
-        return t;
-    }
-    if c.worked != period::TICKS_OF_A_PERIOD {
-        return t;
-    }
-    Totals {
-        lanes: t.lanes + 1,
-        vehicles: t.vehicles + c.vehicles as u64,
-        occupied: t.occupied + c.occupied as u64,
-        timed: t.timed + c.timed as u64,
-        speeds: t.speeds + c.speeds as u64,
-    }
+// What there is to measure by.
+pub enum Measured {
+    NoGoodLane,
+    Over(Measures),
 }
 
 // The totals over the good ones of m mainline lanes.
-pub fn lane_totals(c: Counts, m: u16) -> Totals
+fn lane_totals(c: Counts, m: u16) -> Totals
     ensures is { λ r. ⌜ r ≡ totalsOf c m ⌝ }
-    ensures small { λ r. ⌜ Small r 1000000000000 ⌝ }
+    ensures small { λ r. ⌜ (r .lanes ≤ m) × (r .vehicles ≤ 65535 * m) ⌝ }
 {
-    let mut t = Totals {
-        lanes: 0,
-        vehicles: 0,
-        occupied: 0,
-        timed: 0,
-        speeds: 0,
-    };
+    let mut lanes: u64 = 0;
+    let mut vehicles: u64 = 0;
+    let mut occupied: u64 = 0;
+    let mut timed: u64 = 0;
+    let mut speeds: u64 = 0;
     let mut j: u16 = 0;
-    while j < 6 {
-        t = with_lane(t, period::lane_counts(c, j), m, j);
+    while j < m {
+        let lane = period::lane_counts(c, j);
+        if period::is_good(lane) {
+            lanes += 1;
+            vehicles += lane.vehicles as u64;
+            occupied += lane.occupied as u64;
+            timed += lane.timed as u64;
+            speeds += lane.speeds as u64;
+        }
         j += 1;
     }
-    t
+    Totals {
+        lanes,
+        vehicles,
+        occupied,
+        timed,
+        speeds,
+    }
 }
 
-// What the totals measure, where there is a good lane.
-pub fn measured(t: Totals) -> Measures
-    requires { ⌜ (0 < t .lanes) × Small t 1000000000000 ⌝ }
-    ensures { λ r. ⌜ r ≡ measuresOf t ⌝ }
+// What a period's counts measured on m mainline lanes, if one of them was good.
+pub fn measured_on(c: Counts, m: u16) -> Measured
+    ensures { λ r. ⌜ r ≡ measuredOf c m ⌝ }
 {
+    let t = lane_totals(c, m);
+    if t.lanes == 0 {
+        return Measured::NoGoodLane;
+    }
     let flow = t.vehicles * 120 / t.lanes;
     let occupancy = t.occupied / (30 * t.lanes);
     if t.timed == 0 {
-        return Measures {
+        return Measured::Over(Measures {
             flow,
             occupancy,
             known: false,
             speed: 0,
-        };
+        });
     }
-    Measures {
+    Measured::Over(Measures {
         flow,
         occupancy,
         known: true,
         speed: t.speeds / t.timed,
-    }
+    })
 }

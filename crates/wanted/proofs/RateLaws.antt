@@ -17,10 +17,11 @@ use Rattle.inputs.proofs.CommandLaws.{command-rate}
 use Rattle.plan.specs.Entry.{entryOf}
 use Rattle.plan.proofs.InForceLaws.{in-force-in}
 use Rattle.period.specs.declared.Periods.{Periods}
-use Rattle.levels.specs.declared.measure.Totals.{Totals}
-use Rattle.levels.specs.Measures.{totalsOf, measuresOf}
+use Rattle.levels.specs.declared.measure.Measured.{Measured}
+use Rattle.levels.specs.declared.measure.Measured.the-variants.{NoGoodLane, Over}
+use Rattle.levels.specs.Measures.{measuredOf}
 use Rattle.levels.specs.Levels.{levelOf, decidingOf}
-use Rattle.levels.proofs.Turns.{deciding-in}
+use Rattle.levels.proofs.DecidingLaws.{deciding-in}
 use Rattle.wanted.specs.declared.wish.Wish.{Wish}
 use Rattle.wanted.specs.declared.wish.Wish.the-variants.{Dark, Green, Metering, Clear}
 use Rattle.wanted.specs.declared.wish.Source.{Source}
@@ -82,21 +83,17 @@ module _ (x : Site) (ok : spoiltSite x ≡ false) where
       (λ e. tt)
       (λ e. level-rate x ok (place - 1) (omega (arith, eqb-false place 0 e)))
 
-  measured-good : (c : Command) (t : Totals) → (150 ≤ c .rate) × (c .rate ≤ 1800) → ChoiceGood (measuredChoice c (x .tables) (x .levels) t)
-  unfolding measuredChoice
-  measured-good c t g =
-      let place = decidingOf (x .tables) (x .levels) (c .table) (measuresOf t) in
-      one-of ChoiceGood (eqb (t .lanes) 0) (choice 0 (Metering (c .rate))) (levelChoice (x .tables) place)
-      (λ e. g)
-      (λ e. level-good place (deciding-in (x .tables) (c .table) (measuresOf t) (x .levels)))
+  measured-good : (c : Command) (q : Measured) → (150 ≤ c .rate) × (c .rate ≤ 1800) → ChoiceGood (measuredChoice c (x .tables) (x .levels) q)
+  measured-good c NoGoodLane g = g
+  measured-good c (Over q) g = level-good (decidingOf (x .tables) (x .levels) (c .table) q) (deciding-in (x .tables) (c .table) q (x .levels))
 
   module _ (m : ℕ) (p : Periods) where
     responsive-good : (c : Command) → (150 ≤ c .rate) × (c .rate ≤ 1800) → ChoiceGood (responsiveChoice c (x .tables) (x .levels) m p)
     unfolding responsiveChoice
     responsive-good c g =
-        one-of ChoiceGood (eqb (p .serial) 0) (choice 0 Clear) (measuredChoice c (x .tables) (x .levels) (totalsOf (p .last) m))
+        one-of ChoiceGood (eqb (p .serial) 0) (choice 0 Clear) (measuredChoice c (x .tables) (x .levels) (measuredOf (p .last) m))
         (λ e. tt)
-        (λ e. measured-good c (totalsOf (p .last) m) g)
+        (λ e. measured-good c (measuredOf (p .last) m) g)
 
     choice-good : (c : Command) → CommandGood c → ChoiceGood (choiceOf c (x .tables) (x .levels) m p)
     unfolding choiceOf

@@ -3,7 +3,7 @@ use Prim.Native.Nat.{ℕ, _/_}
 use Rattle.site.specs.declared.Site.{Site}
 use Rattle.site.specs.Named.{mainlineLanes}
 use Rattle.calendar.specs.declared.clock.Clock.{Clock}
-use Rattle.calendar.specs.Holidays.{dayTypeOf}
+use Rattle.calendar.specs.Holidays.{noDay, dayTypeOf}
 use Rattle.plan.specs.InForce.{inForceOf}
 use Rattle.inputs.specs.declared.Command.{Command}
 use Rattle.period.specs.declared.Periods.{Periods}
@@ -28,6 +28,6 @@ decisionOf x clock manual centre p =
     let c : Choice = choiceOf (commandInForce x clock manual centre) (x .tables) (x .levels) (mainlineLanes x) p in
     record { day = dayOf x clock; entry = entryInForce x clock; source = sourceOf manual centre; level = c .level; wish = c .wish }
 
--- Where nothing is decided: no entry, dark.
+-- Where nothing is decided: no day, no entry, dark.
 abbrev pub noDecision : Decision
-noDecision = record { day = 0; entry = 0; source = Plan; level = 0; wish = Dark }
+noDecision = record { day = noDay; entry = 0; source = Plan; level = 0; wish = Dark }

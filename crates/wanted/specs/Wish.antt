@@ -6,8 +6,9 @@ use lib.Dec.{ltb, eqb}
 use Rattle.inputs.specs.declared.Command.{Command}
 use Rattle.plan.specs.Entry.{entryOf}
 use Rattle.period.specs.declared.Periods.{Periods}
-use Rattle.levels.specs.declared.measure.Totals.{Totals}
-use Rattle.levels.specs.Measures.{totalsOf, measuresOf}
+use Rattle.levels.specs.declared.measure.Measured.{Measured}
+use Rattle.levels.specs.declared.measure.Measured.the-variants.{NoGoodLane, Over}
+use Rattle.levels.specs.Measures.{measuredOf}
 use Rattle.levels.specs.Levels.{levelOf, decidingOf}
 use Rattle.wanted.specs.declared.wish.Wish.{Wish}
 use Rattle.wanted.specs.declared.wish.Wish.the-variants.{Dark, Green, Metering, Clear}
@@ -50,12 +51,13 @@ unfoldable pub levelChoice : List ℕ → ℕ → Choice
 levelChoice rows place = cond (eqb place 0) (choice 0 Clear) (choice place (Metering (levelOf rows (place - 1) .rate)))
 
 -- "No good lane: metering at the command's or entry's rate." Otherwise the levels.
-unfoldable pub measuredChoice : Command → List ℕ → ℕ → Totals → Choice
-measuredChoice c rows count t = cond (eqb (t .lanes) 0) (choice 0 (Metering (c .rate))) (levelChoice rows (decidingOf rows count (c .table) (measuresOf t)))
+abbrev pub measuredChoice : Command → List ℕ → ℕ → Measured → Choice
+measuredChoice c rows count NoGoodLane = choice 0 (Metering (c .rate))
+measuredChoice c rows count (Over q) = levelChoice rows (decidingOf rows count (c .table) q)
 
 -- "A responsive one looks at the last completed period. No period: clear."
 unfoldable pub responsiveChoice : Command → List ℕ → ℕ → ℕ → Periods → Choice
-responsiveChoice c rows count m p = cond (eqb (p .serial) 0) (choice 0 Clear) (measuredChoice c rows count (totalsOf (p .last) m))
+responsiveChoice c rows count m p = cond (eqb (p .serial) 0) (choice 0 Clear) (measuredChoice c rows count (measuredOf (p .last) m))
 
 -- "1 dark, 2 green, 3 fixed, 4 responsive."
 unfoldable pub choiceOf : Command → List ℕ → ℕ → ℕ → Periods → Choice

@@ -12,7 +12,7 @@ use site::Site;
 pub use wish::Source;
 pub use wish::Wish;
 
-// The day type, 0 Sunday to 6 Saturday and 7 Holiday; the places from 1 in the file of the entry in
+// The day type, 0 Sunday to 6 Saturday, 7 Holiday and 8 for no day; the places from 1 in the file of the entry in
 // force and of the level that decided, 0 for none; who rules, and the wish.
 pub struct Decision {
     pub day: u16,
@@ -79,12 +79,12 @@ pub fn wanted_now(
     }
 }
 
-// Where nothing is decided: that of no entry, dark.
+// Where nothing is decided: no day, no entry, dark.
 pub fn no_decision() -> Decision
     ensures { λ r. ⌜ r ≡ noDecision ⌝ }
 {
     Decision {
-        day: 0,
+        day: calendar::NO_DAY,
         entry: 0,
         source: Source::Plan,
         level: 0,

@@ -1,9 +1,8 @@
 // What a command wishes, and which command rules.
 ghost use mathlib.Core.Path.{_≡_};
-ghost use Rattle.levels.specs.Room.{Small};
 ghost use Rattle.wanted.specs.Wish.{kindOf, plannedOf, rulingOf, sourceOf, levelChoice, measuredChoice, responsiveChoice, choiceOf};
 use inputs::Command;
-use levels::Totals;
+use levels::Measured;
 use period::Periods;
 
 // What is wanted of the group.
@@ -94,20 +93,16 @@ fn level_choice(rows: &[u16], place: u16) -> Choice
     }
 }
 
-fn measured_choice(c: Command, rows: &[u16], count: u16, t: Totals) -> Choice
-    requires { ⌜ Small t 1000000000000 ⌝ }
-    ensures { λ r. ⌜ r ≡ measuredChoice c (now (rows .entry)) count t ⌝ }
+fn measured_choice(c: Command, rows: &[u16], count: u16, measured: Measured) -> Choice
+    ensures { λ r. ⌜ r ≡ measuredChoice c (now (rows .entry)) count measured ⌝ }
 {
-    if t.lanes == 0 {
-        return Choice {
+    match measured {
+        Measured::NoGoodLane => Choice {
             level: 0,
             wish: Wish::Metering(c.rate),
-        };
+        },
+        Measured::Over(q) => level_choice(rows, levels::deciding(rows, count, c.table, q)),
     }
-    level_choice(
-        rows,
-        levels::deciding(rows, count, c.table, levels::measured(t)),
-    )
 }
 
 fn responsive_choice(c: Command, rows: &[u16], count: u16, m: u16, p: Periods) -> Choice
@@ -120,7 +115,7 @@ fn responsive_choice(c: Command, rows: &[u16], count: u16, m: u16, p: Periods) -
         };
     }
     let last = p.last;
-    measured_choice(c, rows, count, levels::lane_totals(last, m))
+    measured_choice(c, rows, count, levels::measured_on(last, m))
 }
 
 // What a command wishes at a site with these levels and m mainline lanes.
