@@ -4,12 +4,10 @@ ghost use Rattle.lanes.specs.Intervals.{riseOf, passagesOf, greenEnds, g
 use crate::GREEN;
 use crate::LONGEST;
 use crate::Lane;
+use crate::MOST_PASSAGES;
 use crate::RED;
 use crate::YELLOW;
 use timings::Timings;
-
-// Where the passages of a green stop.
-const MOST_PASSAGES: u16 = 3;
 
 // One more, to 720 at most.
 pub fn rise(x: u16) -> u16

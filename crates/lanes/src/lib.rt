@@ -15,6 +15,9 @@ pub const GREEN: u16 = 3;
 // Where ages and counters of the lanes stop.
 pub const LONGEST: u16 = 720;
 
+// Where the passages of a green stop.
+pub const MOST_PASSAGES: u16 = 3;
+
 // One lane: its colour and that colour's age, the ticks since its last green began, and the passages
 // of that green.
 pub struct Lane {

@@ -13,6 +13,10 @@ use lanes::Lanes;
 use lanes::RED;
 use timings::Timings;
 
+// The service mode in which greens begin a part of the cycle apart; in the other, mutual exclusion,
+// one after the other's end.
+const FRACTIONAL_OFFSET: u16 = 1;
+
 // Whether a lane is ready: red at least the minimum, in demand, a cycle from its last green's start.
 fn is_ready(t: Timings, cycle: u16, demand: u16, l: Lane) -> bool
     ensures { λ r. ⌜ r ≡ isReady t cycle demand l ⌝ }
@@ -70,7 +74,7 @@ fn any_green(s: Lanes, n: u16) -> bool
 fn may_release(t: Timings, cycle: u16, s: Lanes) -> bool
     ensures { λ r. ⌜ r ≡ mayRelease t cycle s ⌝ }
 {
-    if t.mode == 1 {
+    if t.mode == FRACTIONAL_OFFSET {
         return cycle::offset_ticks(cycle, t.lanes) <= s.offset as u32;
     }
     !any_green(s, t.lanes)
