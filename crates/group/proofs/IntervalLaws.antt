@@ -12,7 +12,7 @@ use Rattle.wanted.specs.declared.wish.Wish.the-variants.{Dark, Green, Metering,
 use Rattle.timings.specs.declared.Timings.{Timings}
 use Rattle.lanes.specs.declared.Lanes.{Lanes}
 use Rattle.lanes.specs.Lanes.{lanesTick, lanesEntered}
-use Rattle.lanes.proofs.LaneLaws.{by-test}
+use Rattle.loops.proofs.Cases.{by-test}
 use Rattle.group.specs.declared.Group.{Group}
 use Rattle.group.specs.Intervals.{ageOf, timeOf, fromDark, fromGreen, fromMetering, successorOf, nextInterval}
 use Rattle.group.specs.Group.{allRed, intervalOf, lanesIn, lanesMoved}

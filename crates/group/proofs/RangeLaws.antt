@@ -16,7 +16,8 @@ use Rattle.lanes.specs.declared.Lane.{Lane}
 use Rattle.lanes.specs.declared.Lanes.{Lanes}
 use Rattle.lanes.specs.Intervals.{lane, riseOf, laneTick}
 use Rattle.lanes.specs.Lanes.{laneOf, lanesTick, lanesEntered}
-use Rattle.lanes.proofs.LaneLaws.{by-test, rise-min, passages-most, tick-cases, lane-in, lane-out, offset-ticked, last-ticked, entered-in, entered-out, offset-entered, last-entered}
+use Rattle.loops.proofs.Cases.{by-test}
+use Rattle.lanes.proofs.LaneLaws.{rise-min, passages-most, tick-cases, lane-in, lane-out, offset-ticked, last-ticked, entered-in, entered-out, offset-entered, last-entered}
 use Rattle.release.specs.Release.{releasedOf, releaseOf}
 use Rattle.release.proofs.ReleaseLaws.{none-released, lane-goes, lane-stays, last-released, offset-released, released-in}
 use Rattle.group.specs.declared.Group.{Group}

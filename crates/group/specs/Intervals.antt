@@ -42,7 +42,8 @@ fromMetering (Metering rate) = 7
 fromMetering Clear = 8
 
 -- Where an interval leads once its time is up. "0 leads to 1." "3, 4, 5, 6 and 9 run their times whatever is wanted and lead to 4, 5, 6, 7
--- and 2." The maximum of 2 is in minutes, 600 ticks each. "8 becomes 9 at the first later tick that finds all lanes red as the tick before left them; it never returns to 7."
+-- and 2." "Maximum pre-metering green 1-60 minutes (600 ticks each)." "8 becomes 9 at the first later tick that finds all lanes red as the
+-- tick before left them; it never returns to 7."
 unfoldable pub successorOf : Timings → Wish → ℕ → Bool → ℕ → ℕ
 successorOf t wish age red interval =
     cond (eqb interval 0) 1

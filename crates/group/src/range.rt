@@ -13,6 +13,7 @@ use lanes::GREEN;
 use lanes::LONGEST;
 use lanes::Lane;
 use lanes::Lanes;
+use lanes::MOST_PASSAGES;
 use lanes::RED;
 
 fn no_colour(colour: u16) -> bool
@@ -46,7 +47,7 @@ fn lane_spoilt(interval: u16, l: Lane) -> bool
     if LONGEST < l.counter {
         return true;
     }
-    if 3 < l.passages {
+    if MOST_PASSAGES < l.passages {
         return true;
     }
     colour_spoilt(interval, l.colour)

@@ -40,6 +40,17 @@ pub struct Command {
     pub table: u16,
 }
 
+// The kinds of commands.
+pub const NONE: u16 = 0;
+
+pub const DARK: u16 = 1;
+
+pub const GREEN: u16 = 2;
+
+pub const FIXED: u16 = 3;
+
+pub const RESPONSIVE: u16 = 4;
+
 // A detector value is out of range.
 pub const BAD_SAMPLE: u8 = 9;
 
@@ -166,10 +177,10 @@ fn carries_nothing(c: Command) -> bool
 fn command_bad(c: Command) -> bool
     ensures { λ r. ⌜ r ≡ commandBad c ⌝ }
 {
-    if c.kind == 0 {
+    if c.kind == NONE {
         return !carries_nothing(c);
     }
-    if 4 < c.kind {
+    if RESPONSIVE < c.kind {
         return true;
     }
     let mode = c.kind - 1;

@@ -8,16 +8,12 @@ use borrow.Author.Tests.{ltb-true, ltb-false, leb-true, leb-false, eqb-true, lt-
 use lib.Dec.{ltb, leb, eqb}
 use lib.ListN.{getD}
 use Rattle.loops.proofs.AnyLaws.{neither}
+use Rattle.loops.proofs.Cases.{by-test}
 use Rattle.timings.specs.declared.Timings.{Timings}
 use Rattle.lanes.specs.declared.Lane.{Lane}
 use Rattle.lanes.specs.declared.Lanes.{Lanes}
 use Rattle.lanes.specs.Intervals.{lane, riseOf, passagesOf, greenEnds, greenAt, yellowAt, laneTick}
-use Rattle.lanes.specs.Lanes.{laneOf, lanesOf, laneTickAt, lanesTick, laneEntered, lanesEntered}
-
--- A true or a false test.
-pub by-test : {A : Type 0} (b : Bool) → (b ≡ true → A) → (b ≡ false → A) → A
-by-test true f g = f refl
-by-test false f g = g refl
+use Rattle.lanes.specs.Lanes.{laneOf, lanesOf, eachLane, laneTickAt, lanesTick, laneEntered, lanesEntered}
 
 pub rise-min : (x : ℕ) → riseOf x ≡ min (x + 1) 720
 unfolding riseOf
@@ -62,21 +58,21 @@ tick-counter t l passage =
     tick-cases t l passage (λ m. m .counter ≡ riseOf (l .counter)) (λ _. refl) (λ _ _. refl) (λ _ _. refl) (λ _ _. refl) (λ _ _. refl)
 
 -- One of the four lanes, after the tick and on entering metering.
-pub lane-ticked : (t : Timings) (s : Lanes) (passage : List ℕ) (i : ℕ) → i < 4 → laneOf (lanesTick t s passage) i ≡ laneTickAt t s passage i
-unfolding laneOf lanesOf lanesTick
-lane-ticked t s passage zero h = refl
-lane-ticked t s passage (suc zero) h = refl
-lane-ticked t s passage (suc (suc zero)) h = refl
-lane-ticked t s passage (suc (suc (suc zero))) h = refl
-lane-ticked t s passage (suc (suc (suc (suc i)))) h = absurd (omega arith)
+pub each-lane : (lanes : ℕ → Lane) (offset last i : ℕ) → i < 4 → laneOf (eachLane lanes offset last) i ≡ lanes i
+unfolding laneOf lanesOf
+each-lane lanes offset last zero h = refl
+each-lane lanes offset last (suc zero) h = refl
+each-lane lanes offset last (suc (suc zero)) h = refl
+each-lane lanes offset last (suc (suc (suc zero))) h = refl
+each-lane lanes offset last (suc (suc (suc (suc i)))) h = absurd (omega arith)
+
+pub lane-ticked : (t : Timings) (s : Lanes) (passage : List ℕ) (i : ℕ) → i < 4 → laneOf (lanesTick t s passage) i ≡ laneTickAt t s (getD passage i 0) i
+unfolding lanesTick
+lane-ticked t s passage i h = each-lane (λ i. laneTickAt t s (getD passage i 0) i) (riseOf (s .offset)) (s .last) i h
 
 pub lane-entered : (n i : ℕ) → i < 4 → laneOf (lanesEntered n) i ≡ laneEntered n i
-unfolding laneOf lanesOf lanesEntered
-lane-entered n zero h = refl
-lane-entered n (suc zero) h = refl
-lane-entered n (suc (suc zero)) h = refl
-lane-entered n (suc (suc (suc zero))) h = refl
-lane-entered n (suc (suc (suc (suc i)))) h = absurd (omega arith)
+unfolding lanesEntered
+lane-entered n i h = each-lane (laneEntered n) 720 n i h
 
 module _ (t : Timings) (s : Lanes) (passage : List ℕ) where
   -- A lane of the site ticks; another stays as it is.

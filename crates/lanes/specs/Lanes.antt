@@ -23,14 +23,17 @@ lanesOf a b c d offset last = record {
   last = last;
 }
 
--- Lane i one tick later; one that the site lacks stays as it is.
-unfoldable pub laneTickAt : Timings → Lanes → List ℕ → ℕ → Lane
-laneTickAt t s passage i = cond (ltb i (t .lanes)) (laneTick t (laneOf s i) (getD passage i 0)) (laneOf s i)
+-- The four lanes, each by its number.
+abbrev pub eachLane : (ℕ → Lane) → ℕ → ℕ → Lanes
+eachLane lanes offset last = lanesOf (lanes 0) (lanes 1) (lanes 2) (lanes 3) offset last
+
+-- Lane i one tick later, with its passage sample; one that the site lacks stays as it is.
+unfoldable pub laneTickAt : Timings → Lanes → ℕ → ℕ → Lane
+laneTickAt t s passage i = cond (ltb i (t .lanes)) (laneTick t (laneOf s i) passage) (laneOf s i)
 
 -- The lanes one tick later, none released.
 unfoldable pub lanesTick : Timings → Lanes → List ℕ → Lanes
-lanesTick t s passage =
-    lanesOf (laneTickAt t s passage 0) (laneTickAt t s passage 1) (laneTickAt t s passage 2) (laneTickAt t s passage 3) (riseOf (s .offset)) (s .last)
+lanesTick t s passage = eachLane (λ i. laneTickAt t s (getD passage i 0) i) (riseOf (s .offset)) (s .last)
 
 -- "On entering 7 all lanes are red at age 0, each lane's cycle counter and the group's one offset counter are 720, passage counts 0, and
 -- lane n counts as last released."
@@ -38,4 +41,4 @@ unfoldable pub laneEntered : ℕ → ℕ → Lane
 laneEntered n i = cond (ltb i n) (lane 1 0 720 0) (lane 0 0 0 0)
 
 unfoldable pub lanesEntered : ℕ → Lanes
-lanesEntered n = lanesOf (laneEntered n 0) (laneEntered n 1) (laneEntered n 2) (laneEntered n 3) 720 n
+lanesEntered n = eachLane (laneEntered n) 720 n

@@ -4,6 +4,7 @@ ghost use Rattle.lanes.specs.Intervals.{riseOf, passagesOf, greenEnds, g
 use crate::GREEN;
 use crate::LONGEST;
 use crate::Lane;
+use crate::MOST_PASSAGES;
 use crate::RED;
 use crate::YELLOW;
 use timings::Timings;
@@ -22,7 +23,7 @@ fn passages_of(count: u16, passage: u16) -> u16
     if passage != 1 {
         return count;
     }
-    if count < 3 {
+    if count < MOST_PASSAGES {
         return count + 1;
     }
     count

@@ -15,6 +15,9 @@ pub const GREEN: u16 = 3;
 // Where ages and counters of the lanes stop.
 pub const LONGEST: u16 = 720;
 
+// Where the passages of a green stop.
+pub const MOST_PASSAGES: u16 = 3;
+
 // One lane: its colour and that colour's age, the ticks since its last green began, and the passages
 // of that green.
 pub struct Lane {
@@ -69,29 +72,25 @@ pub fn of_lanes(a: Lane, b: Lane, c: Lane, d: Lane, offset: u16, last: u16) -> L
     }
 }
 
-// Lane i one tick later; one that the site lacks stays as it is.
-fn tick_at(t: Timings, s: Lanes, passage: [u16; 4], i: u16) -> Lane
+// Lane i one tick later, with its passage sample; one that the site lacks stays as it is.
+fn tick_at(t: Timings, s: Lanes, passage: u16, i: u16) -> Lane
     ensures { λ r. ⌜ r ≡ laneTickAt t s passage i ⌝ }
 {
     let lane = lane_at(s, i);
     if t.lanes <= i {
         return lane;
     }
-    let k = i as usize;
-    if 4 <= k {
-        return interval::lane_tick(t, lane, 0);
-    }
-    interval::lane_tick(t, lane, passage[k])
+    interval::lane_tick(t, lane, passage)
 }
 
 // The lanes one tick later, none released, with the tick's passage samples.
 pub fn tick(t: Timings, s: Lanes, passage: [u16; 4]) -> Lanes
     ensures { λ r. ⌜ r ≡ lanesTick t s passage ⌝ }
 {
-    let a = tick_at(t, s, passage, 0);
-    let b = tick_at(t, s, passage, 1);
-    let c = tick_at(t, s, passage, 2);
-    let d = tick_at(t, s, passage, 3);
+    let a = tick_at(t, s, passage[0], 0);
+    let b = tick_at(t, s, passage[1], 1);
+    let c = tick_at(t, s, passage[2], 2);
+    let d = tick_at(t, s, passage[3], 3);
     of_lanes(a, b, c, d, interval::rise(s.offset), s.last)
 }
 

@@ -8,6 +8,7 @@ use lib.Dec.{ltb, eqb}
 use lib.ListN.{getD, replicate}
 use Rattle.loops.specs.Any.{anyFrom}
 use Rattle.loops.proofs.AnyLaws.{neither, none-of, any-of-none}
+use Rattle.loops.proofs.EachLaws.{at-four}
 use Rattle.inputs.specs.declared.Metered.{Metered}
 use Rattle.inputs.specs.declared.Mainline.{Mainline}
 use Rattle.inputs.specs.declared.LaneSample.{LaneSample}
@@ -261,11 +262,7 @@ module _ (lanes : Metered) (main : Mainline) (n m : ℕ) (e : samplesBad lanes m
 
     passages-are : (i : ℕ) → i < 4 → getD (c′ .passages) i 0 ≡ passagesAt c lanes n i
     unfolding countedOf
-    passages-are zero h = refl
-    passages-are (suc zero) h = refl
-    passages-are (suc (suc zero)) h = refl
-    passages-are (suc (suc (suc zero))) h = refl
-    passages-are (suc (suc (suc (suc i)))) h = absurd (omega arith)
+    passages-are i h = at-four (passagesAt c lanes n) i h
 
     lane-then : (j : ℕ) (b : Bool) → ltb j m ≡ b → j < 6 → LaneGood (laneCountedAt c main m j) (mostTicks j m (t + 1))
     unfolding laneCountedAt
@@ -361,11 +358,7 @@ module _ (p : Periods) (lanes : Metered) (main : Mainline) (n m : ℕ) (g : Peri
 module _ (c : Counts) (n m t k : ℕ) (g : CountsGood c n m (t + 1)) (few : (i : ℕ) → i < 4 → getD (c .greens) i 0 ≤ mostTicks i n t) (h : k ≤ n) where
   greens-are : (i : ℕ) → i < 4 → getD (greenCounted c k .greens) i 0 ≡ greensAt c k i
   unfolding greenCounted
-  greens-are zero l = refl
-  greens-are (suc zero) l = refl
-  greens-are (suc (suc zero)) l = refl
-  greens-are (suc (suc (suc zero))) l = refl
-  greens-are (suc (suc (suc (suc i)))) l = absurd (omega arith)
+  greens-are i l = at-four (greensAt c k) i l
 
   greens-in : (i : ℕ) (b : Bool) → eqb k (i + 1) ≡ b → i < 4 → greensAt c k i ≤ mostTicks i n (t + 1)
   unfolding greensAt

@@ -43,12 +43,8 @@ pub no-cycle : (vehicles : ℕ) → cycleTicks vehicles 0 ≡ 0
 unfolding cycleTicks roundedUp
 no-cycle v = refl
 
--- The offset grows with the cycle, and is no more than that, and at least 1.
+-- The offset is no more than the cycle, and at least 1.
 module _ (n : ℕ) (h : 1 ≤ n) where
-  pub offset-grows : (a c : ℕ) → a ≤ c → offsetTicks a n ≤ offsetTicks c n
-  unfolding offsetTicks
-  offset-grows a c l = up-grows n h a c l
-
   pub offset-most : (c : ℕ) → offsetTicks c n ≤ c
   unfolding offsetTicks
   offset-most c = up-most n h c c (omega (arith, mul-one c, mul-le-mul-left c h))

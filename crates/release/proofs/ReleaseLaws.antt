@@ -12,18 +12,15 @@ use Rattle.lanes.specs.declared.Lane.{Lane}
 use Rattle.lanes.specs.declared.Lanes.{Lanes}
 use Rattle.lanes.specs.Intervals.{lane}
 use Rattle.lanes.specs.Lanes.{laneOf, lanesOf}
-use Rattle.lanes.proofs.LaneLaws.{by-test}
+use Rattle.loops.proofs.Cases.{by-test}
+use Rattle.lanes.proofs.LaneLaws.{each-lane}
 use Rattle.release.specs.Release.{isReady, readyAt, mayRelease, releasedOf, greenIf, releaseOf}
-use Rattle.release.proofs.TurnLaws.{first-in, first-holds}
+use Rattle.turns.proofs.TurnLaws.{first-in, first-holds}
 
 -- Lane i after the release of a lane, or of none.
 lane-case : (s : Lanes) (k i : ℕ) → eqb k 0 ≡ false → i < 4 → laneOf (releaseOf s k) i ≡ greenIf k (i + 1) (laneOf s i)
-unfolding laneOf lanesOf releaseOf
-lane-case s k zero e h = rw e
-lane-case s k (suc zero) e h = rw e
-lane-case s k (suc (suc zero)) e h = rw e
-lane-case s k (suc (suc (suc zero))) e h = rw e
-lane-case s k (suc (suc (suc (suc i)))) e h = absurd (omega arith)
+unfolding releaseOf
+lane-case s k i e h = rw e (each-lane (λ i. greenIf k (i + 1) (laneOf s i)) 0 k i h)
 
 module _ (s : Lanes) (k : ℕ) where
   pub none-released : eqb k 0 ≡ true → releaseOf s k ≡ s

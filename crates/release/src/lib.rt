@@ -4,13 +4,18 @@ mod cycle;
 ghost use mathlib.Core.Path.{_≡_};
 ghost use Prim.Native.Nat.{_≤_};
 ghost use lib.ListN.{getD};
-ghost use Rattle.release.specs.Release.{isReady, readyAt, anyGreen, mayRelease, nextLane, firstAfter, releasedOf, greenIf, releaseOf};
+ghost use Rattle.turns.specs.Turn.{nextOf, firstAfter};
+ghost use Rattle.release.specs.Release.{isReady, readyAt, anyGreen, mayRelease, releasedOf, greenIf, releaseOf};
 pub use cycle::cycle_ticks;
 use lanes::GREEN;
 use lanes::Lane;
 use lanes::Lanes;
 use lanes::RED;
 use timings::Timings;
+
+// The service mode in which greens begin a part of the cycle apart; in the other, mutual exclusion,
+// one after the other's end.
+const FRACTIONAL_OFFSET: u16 = 1;
 
 // Whether a lane is ready: red at least the minimum, in demand, a cycle from its last green's start.
 fn is_ready(t: Timings, cycle: u16, demand: u16, l: Lane) -> bool
@@ -69,7 +74,7 @@ fn any_green(s: Lanes, n: u16) -> bool
 fn may_release(t: Timings, cycle: u16, s: Lanes) -> bool
     ensures { λ r. ⌜ r ≡ mayRelease t cycle s ⌝ }
 {
-    if t.mode == 1 {
+    if t.mode == FRACTIONAL_OFFSET {
         return cycle::offset_ticks(cycle, t.lanes) <= s.offset as u32;
     }
     !any_green(s, t.lanes)
@@ -77,7 +82,7 @@ fn may_release(t: Timings, cycle: u16, s: Lanes) -> bool
 
 // The lane after lane k, of n.
 fn next_lane(n: u16, k: u16) -> u16
-    ensures { λ r. ⌜ r ≡ nextLane n k ⌝ }
+    ensures { λ r. ⌜ r ≡ nextOf n k ⌝ }
 {
     if k < n { k + 1 } else { 1 }
 }

@@ -28,6 +28,11 @@ fn site_files() {
     at_site(b"wide.txt");
 }
 
+// More output than two blocks.
+fn blocks() {
+    show(b"narrow.bin", b"long.txt");
+}
+
 // The end of the input.
 fn ends() {
     at_site(b"no_lines.txt");
@@ -72,6 +77,7 @@ fn sizes() {
 
 fn main() {
     site_files();
+    blocks();
     ends();
     bytes();
     blanks();

@@ -1,7 +1,7 @@
 // Runs a whole day of ticks, one after the other from power-up, at the site whose file is standard
 // input. Prints how many were accepted, the lanes released, the periods polled, and a checksum of
-// all that the driver and the control centre see; of a refused file, why. With an argument, the
-// samples alone are made.
+// all that the driver and the control centre see; of a refused file why and where. With an argument,
+// the samples alone are made.
 mod random;
 
 use calendar::Clock;
@@ -172,14 +172,6 @@ fn run(site: Site) {
     io::write_all(STDOUT_FILENO, b"\n");
 }
 
-fn print_refusal(refusal: u8, place: usize) {
-    let mut out = io::buffer();
-    let n = phrases::put_refusal(&mut out, 0, refusal, place);
-    if n <= out.len() {
-        io::write_all(STDOUT_FILENO, &out[..n]);
-    }
-}
-
 fn with_six(sum: u32, v: [u16; 6]) -> u32 {
     let a = with_four(sum, [v[0], v[1], v[2], v[3]]);
     summed(a, four(0, 0, v[4], v[5]))
@@ -220,7 +212,7 @@ fn main() {
     let n = io::read_full(STDIN_FILENO, &mut file);
     let read = site_reader::read(&file[..n]);
     if read.refusal != 0 {
-        print_refusal(read.refusal, read.place);
+        test_output::print_refusal(read.refusal, read.place);
         return;
     }
     let site = read.site;

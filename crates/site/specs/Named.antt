@@ -5,9 +5,8 @@ use Rattle.timings.specs.declared.Timings.{Timings}
 use Rattle.timings.specs.declared.Shape.{Shape}
 use Rattle.site.specs.declared.Site.{Site}
 
--- "Lanes n; service mode; vehicles per green V; minimum green; maximum green; yellow; minimum red; startup
--- warning; startup green; startup yellow; startup red; shutdown red; maximum pre-metering green; minimum pre-metering green; mainline lanes
--- m".
+-- In the file's order: lanes n, service mode, vehicles per green V, minimum and maximum green, yellow, minimum red, startup warning, startup
+-- green, startup yellow, startup red, shutdown red, maximum and minimum pre-metering green, mainline lanes m.
 unfoldable pub timingsOf : Site → Timings
 timingsOf x = record {
   lanes = getD (x .timings) 0 0;

@@ -1,20 +1,21 @@
 -- The waiting bound: the group's rank falls at each accepted tick of a run that does not release the waiting lane, and a refused tick changes
 -- nothing.
-use Prim.Native.Nat.{ℕ, zero, suc, _+_, _-_, _≤_, _<_, max, min}
+use Prim.Native.Nat.{ℕ, _+_, _-_, _≤_, _<_, max, min}
 use mathlib.Core.Path.{_≡_, refl, sym, _∙_, ap, subst}
-use mathlib.Core.Bool.{Bool, true, false, _||_, true≢false}
-use mathlib.Core.List.{List, [], _∷_, _++_}
+use mathlib.Core.Bool.{true, false, true≢false}
 use native.Mathlib.Omega.{arith}
 use native.Mathlib.Nat.{mul-le-mul-left}
 use borrow.Author.Tests.{eqb-true, eq-eqb}
 use lib.Dec.{eqb}
 use lib.ListN.{getD}
+use Rattle.runs.proofs.RunLaws.{split-run, reached, within}
 use Rattle.site.specs.declared.Site.{Site}
 use Rattle.site.specs.Record.{spoiltSite}
 use Rattle.site.specs.Named.{timingsOf, meteredLanes, shapeOf}
 use Rattle.site.proofs.TimingLaws.{timings-good}
 use Rattle.timings.specs.declared.Timings.{Timings}
-use Rattle.lanes.proofs.LaneLaws.{by-test}
+use Rattle.loops.proofs.Cases.{by-test}
+use Rattle.loops.proofs.EachLaws.{at-four}
 use Rattle.release.proofs.CycleLaws.{up-grows}
 use Rattle.group.specs.declared.Group.{Group}
 use Rattle.group.specs.declared.indication.Indications.{Indications}
@@ -31,7 +32,7 @@ use Rattle.tick.specs.declared.Input.{Input}
 use Rattle.tick.specs.declared.Ticked.{Ticked}
 use Rattle.tick.specs.Checks.{tickRefusal}
 use Rattle.tick.specs.Tick.{powerUpOf, decidedIn, cycleIn, movedIn, acceptedTick, refusedTick, tickOf}
-use Rattle.tick.specs.Waiting.{Call, Course, atPowerUp, answerTo, isAccepted, onward, courseAfter, AtAccepted, acceptedTicks, Waits, greenBegins, beginsWithin, WaitingBound}
+use Rattle.tick.specs.Waiting.{Call, Course, atPowerUp, answerTo, isAccepted, onward, courseAfter, AtAccepted, Waits, greenBegins, beginsWithin, WaitingBound}
 use Rattle.tick.proofs.TickLaws.{Accepted, accepted, sound-timings, cycle-in, some-cycle, tick-keeps}
 
 -- A tick is accepted where no check refuses it, and is then what the rules make of it; a refused one leaves all as it was.
@@ -63,19 +64,7 @@ module _ (c : Course) (call : Call) where
 -- What lane j shows.
 colours-at : (g : Group) (n j : ℕ) → j < 4 → getD (indicationsOf g n .colours) j 0 ≡ laneShown g n j
 unfolding indicationsOf
-colours-at g n zero h = refl
-colours-at g n (suc zero) h = refl
-colours-at g n (suc (suc zero)) h = refl
-colours-at g n (suc (suc (suc zero))) h = refl
-colours-at g n (suc (suc (suc (suc j)))) h = absurd (omega arith)
-
--- Something at each accepted tick of two lists, one behind the other.
-split-run : (P : Course → Call → Type 0) (c : Course) (before run : List Call) → AtAccepted P c (before ++ run)
-    → AtAccepted P c before × AtAccepted P (courseAfter c before) run
-split-run P c [] run a = (tt, a)
-split-run P c (call ∷ before) run a =
-    let p = split-run P (onward c call) before run (a .1) in
-    ((a .0, p .0), p .1)
+colours-at g n j h = at-four (laneShown g n) j h
 
 -- The bound grows with the cycle.
 bound-grows : (t : Timings) → Sound t → (a b : ℕ) → a ≤ b → waitingBound t a ≤ waitingBound t b
@@ -206,54 +195,33 @@ module _ (x : Site) (ok : spoiltSite x ≡ false) where
           ap (λ (r : Ticked). getD (r .shown .colours) j 0) (answer e) ∙ colours-at g n j place ∙ after in
           rw (back, released-is e, hit, eq-eqb (getD (answerTo c call .shown .colours) j 0) 3 green, eq-eqb (getD (c .shown .colours) j 0) 1 red)
 
-  -- A run at each of whose accepted ticks the lane waits, and that has more of them than the rank, releases it.
+  -- A tick at which the lane waits and its green does not begin brings it nearer.
   module _ (most : ℕ) (j : ℕ) (hj : j < meteredLanes x) where
     abbrev rank-of : Course → ℕ
     rank-of c = groupRank (timingsOf x) (min most 720) j (c .state .group)
 
-    within : (k : ℕ) (c : Course) (calls : List Call) → Going c → AtAccepted (λ c call. call .site ≡ x) c calls → AtAccepted (Waits (j + 1) most) c calls
-        → rank-of c < k → k ≤ acceptedTicks c calls → beginsWithin (j + 1) k c calls ≡ true
-    within k c [] going same waiting r l = absurd (omega arith)
-    within zero c (call ∷ calls) going same waiting r l = absurd (omega arith)
-    within (suc k) c (call ∷ calls) going same waiting r l =
-        let on = keeps c call going (same .0) in
-        by-test (isAccepted c call)
-        (λ e. by-test (eqb (movedIn x (c .state) (call .input) .released) (j + 1))
-        (λ hit. rw (e, begins c call going (same .0) most j hj (waiting .0) e hit))
-        (λ miss. rw e (or-else (greenBegins (j + 1) c call)
-        (within k (onward c call) calls on (same .1) (waiting .1) (omega (arith, rank-falls c call going (same .0) most j hj (waiting .0) e miss))
-        (one-less (rw e at l))))))
-        (λ e. rw e (within (suc k) (onward c call) calls on (same .1) (waiting .1) (rw (stays c call e) r) (no-less (rw e at l))))
-      where
-        or-else : (a : Bool) {b : Bool} → b ≡ true → (a || b) ≡ true
-        or-else true h = refl
-        or-else false h = h
-
-        one-less : {y : ℕ} → suc k ≤ 1 + y → k ≤ y
-        one-less h = omega arith
-
-        no-less : {y : ℕ} → suc k ≤ 0 + y → suc k ≤ y
-        no-less h = omega arith
-
-  -- The ticks before the run, refused ones included, keep what holds since power-up.
-  reached : (c : Course) (before : List Call) → Going c → AtAccepted (λ c call. call .site ≡ x) c before → Going (courseAfter c before)
-  reached c [] going same = going
-  reached c (call ∷ before) going same = reached (onward c call) before (keeps c call going (same .0)) (same .1)
+    falls : (c : Course) (call : Call) → Going c → isAccepted c call ≡ true → call .site ≡ x → Waits (j + 1) most c call
+        → greenBegins (j + 1) c call ≡ false → rank-of (onward c call) < rank-of c
+    falls c call going e same waits none =
+        by-test (eqb (movedIn x (c .state) (call .input) .released) (j + 1))
+        (λ hit. absurd (true≢false (sym (begins c call going (λ _. same) most j hj (λ _. waits) e hit) ∙ none)))
+        (λ miss. rank-falls c call going (λ _. same) most j hj (λ _. waits) e miss)
 
 pub waiting-bound : (x : Site) → WaitingBound x
 unfolding WaitingBound
 waiting-bound x ok before run same i most least in-site waiting long =
     let t = timingsOf x in
-    let parts = split-run (λ c call. call .site ≡ x) (atPowerUp x) before run same in
+    let parts = split-run onward isAccepted (λ c call. call .site ≡ x) (atPowerUp x) before run same in
     let c = courseAfter (atPowerUp x) before in
-    let going = reached x ok (atPowerUp x) before (start x ok) (parts .0) in
+    let going = reached onward isAccepted (Going x ok) (λ c call. call .site ≡ x) (keeps x ok) (atPowerUp x) before (start x ok) (parts .0) in
     let sound = sound-timings x ok in
     let j = i - 1 in
     let place : i ≡ j + 1 = omega arith in
     let hj : j < meteredLanes x = omega arith in
     let low = group-rank-most t sound (min most 720) j (lanes-are hj) (c .state .group) (good-group-of (going .good .group)) (going .chain) in
     subst (λ (k : ℕ). beginsWithin k (waitingBound t most) c run ≡ true) (sym place)
-    (within x ok most j hj (waitingBound t most) c run going (parts .1)
+    (within onward isAccepted (Going x ok) (λ c call. call .site ≡ x) (keeps x ok) (Waits (j + 1) most) (greenBegins (j + 1)) (rank-of x ok most j hj) stays
+    (falls x ok most j hj) (waitingBound t most) c run going (parts .1)
     (subst (λ (k : ℕ). AtAccepted (Waits k most) c run) place waiting)
     (omega (arith, low, bound-grows t sound (min most 720) most (omega arith))) long)
   where

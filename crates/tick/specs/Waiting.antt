@@ -1,11 +1,12 @@
 -- Demand 3: "A waiting metered lane is never passed over for long." One claim about the whole list of ticks since power-up. All of it is what
 -- the rules give from the sites and inputs handed in; the calls promise that what they return is that.
-use Prim.Native.Nat.{ℕ, zero, suc, _+_, _-_, _≤_}
+use Prim.Native.Nat.{ℕ, _-_, _≤_}
 use mathlib.Core.Path.{_≡_}
-use mathlib.Core.Bool.{Bool, true, false, cond, _&&_, _||_}
-use mathlib.Core.List.{List, [], _∷_, _++_}
+use mathlib.Core.Bool.{Bool, true, false, cond, _&&_}
+use mathlib.Core.List.{List, _++_}
 use lib.Dec.{eqb}
 use lib.ListN.{getD}
+use Rattle.runs.specs.Runs.{after, AtEach, acceptedIn, happensWithin}
 use Rattle.site.specs.declared.Site.{Site}
 use Rattle.site.specs.Record.{spoiltSite}
 use Rattle.site.specs.Named.{timingsOf, meteredLanes}
@@ -40,19 +41,15 @@ isAccepted c call = eqb (answerTo c call .refusal) 0
 unfoldable pub onward : Course → Call → Course
 onward c call = record { state = answerTo c call .state; shown = cond (isAccepted c call) (answerTo c call .shown) (c .shown) }
 
+-- What a list of ticks comes to; what holds at each accepted one; how many are accepted.
 abbrev pub courseAfter : Course → List Call → Course
-courseAfter c [] = c
-courseAfter c (call ∷ calls) = courseAfter (onward c call) calls
+courseAfter = after onward
 
--- Something holds at each accepted tick of a list.
 abbrev pub AtAccepted : (Course → Call → Type 0) → Course → List Call → Type 0
-AtAccepted P c [] = Unit {0}
-AtAccepted P c (call ∷ calls) = (isAccepted c call ≡ true → P c call) × AtAccepted P (onward c call) calls
+AtAccepted = AtEach onward isAccepted
 
--- How many ticks of a list are accepted.
 abbrev pub acceptedTicks : Course → List Call → ℕ
-acceptedTicks c [] = 0
-acceptedTicks c (call ∷ calls) = cond (isAccepted c call) 1 0 + acceptedTicks (onward c call) calls
+acceptedTicks = acceptedIn onward isAccepted
 
 -- Lane i, from 1, waits at a tick: "the lane's demand is on, the group, the tick done, is in metering, and no cycle in force exceeds C".
 pub record Waits (i most : ℕ) (c : Course) (call : Call) : Type 0 where
@@ -69,10 +66,7 @@ greenBegins i c call =
 
 -- It begins at one of the first k accepted ticks of a list.
 abbrev pub beginsWithin : ℕ → ℕ → Course → List Call → Bool
-beginsWithin i k c [] = false
-beginsWithin i zero c (call ∷ calls) = false
-beginsWithin i (suc k) c (call ∷ calls) =
-    (isAccepted c call && greenBegins i c call) || beginsWithin i (cond (isAccepted c call) k (suc k)) (onward c call) calls
+beginsWithin i = happensWithin onward isAccepted (greenBegins i)
 
 -- "Take every list of ticks, refused ones included, from an accepted power-up: .. each accepted one also the power-up's site .. Take every
 -- lane, every whole number C and every run of consecutive accepted ticks in the list, refused ones between them not counted, that has at

@@ -34,9 +34,12 @@ rulingText d = ascii " " ++ (dayName (d .day) ++ (blankAndDecimal (d .entry) ++ 
 unfoldable pub wishedText : Decision → List ℕ
 wishedText d = blankAndDecimal (d .level) ++ (wishText (d .wish) ++ blankAndDecimal (rateOf (d .wish)))
 
+unfoldable pub decisionText : Decision → List ℕ
+decisionText d = rulingText d ++ wishedText d
+
 -- "Of an accepted tick" these, "the cycle or 0, the lane released or 0".
 unfoldable pub acceptedText : Decision → ℕ → ℕ → List ℕ
-acceptedText d cycle released = rulingText d ++ (wishedText d ++ (blankAndDecimal cycle ++ blankAndDecimal released))
+acceptedText d cycle released = decisionText d ++ (blankAndDecimal cycle ++ blankAndDecimal released)
 
 -- "Of a refused one eight times `-`."
 unfoldable pub decidedText : Ticked → List ℕ

@@ -1,6 +1,6 @@
 // What was decided, in a tick's line.
 ghost use Rattle.text.specs.Put.{Put};
-ghost use Rattle.tick_text.specs.Decided.{sourceText, wishText, rulingText, wishedText, acceptedText, decidedText};
+ghost use Rattle.tick_text.specs.Decided.{sourceText, wishText, rulingText, wishedText, decisionText, acceptedText, decidedText};
 use tick::Ticked;
 use wanted::Decision;
 use wanted::Source;
@@ -48,14 +48,21 @@ fn put_wished(out: &mut [u8], at: usize, d: Decision) -> usize
     phrases::put_blank_and_decimal(out, q, wanted::rate_of(wish) as u64)
 }
 
+// All of a decision.
+pub fn put_decision(out: &mut [u8], at: usize, d: Decision) -> usize
+    ensures { λ r. ⌜ Put (now (out .entry)) at (decisionText d) r (now (out .exit)) ⌝ }
+{
+    let p = put_ruling(out, at, d);
+    put_wished(out, p, d)
+}
+
 // What is said of an accepted tick.
 fn put_accepted(out: &mut [u8], at: usize, d: Decision, cycle: u16, released: u16) -> usize
     ensures { λ r. ⌜ Put (now (out .entry)) at (acceptedText d cycle released) r (now (out .exit)) ⌝ }
 {
-    let p = put_ruling(out, at, d);
-    let q = put_wished(out, p, d);
-    let r = phrases::put_blank_and_decimal(out, q, cycle as u64);
-    phrases::put_blank_and_decimal(out, r, released as u64)
+    let p = put_decision(out, at, d);
+    let q = phrases::put_blank_and_decimal(out, p, cycle as u64);
+    phrases::put_blank_and_decimal(out, q, released as u64)
 }
 
 pub fn put_decided(out: &mut [u8], at: usize, t: Ticked) -> usize

@@ -3,28 +3,15 @@ ghost use mathlib.Core.Path.{_≡_};
 ghost use mathlib.Core.List.{_∷_, []};
 ghost use lib.ListN.{getD, take};
 ghost use Rattle.text.specs.Put.{Put};
-ghost use Rattle.tick_text.specs.Lamps.{colourLetter, lampDigit, wordOf, lampsText};
+ghost use Rattle.tick_text.specs.Lamps.{letterOf, wordOf, lampsText};
 use group::Indications;
 
-fn colour_letter(colour: u16) -> u8
-    ensures { λ r. ⌜ r ≡ colourLetter colour ⌝ }
+// A number's letter, and `?` where it has none.
+fn letter_of(letters: &[u8], x: u16) -> u8
+    ensures { λ r. ⌜ r ≡ letterOf (now (letters .entry)) x ⌝ }
 {
-    if colour == 1 {
-        return b'R';
-    }
-    if colour == 2 {
-        return b'Y';
-    }
-    if colour == 3 {
-        return b'G';
-    }
-    b'D'
-}
-
-fn lamp_digit(lit: u16) -> u8
-    ensures { λ r. ⌜ r ≡ lampDigit lit ⌝ }
-{
-    if lit == 0 { b'0' } else { b'1' }
+    let i = x as usize;
+    if i < letters.len() { letters[i] } else { b'?' }
 }
 
 // The first n of four letters.
@@ -39,42 +26,30 @@ fn put_first(out: &mut [u8], at: usize, a: u8, b: u8, c: u8, d: u8, n: u16) -> u
     text::put_bytes(out, at, &letters[..k])
 }
 
-fn put_colours(out: &mut [u8], at: usize, v: [u16; 4], n: u16) -> usize
-    ensures { λ r. ⌜ Put (now (out .entry)) at (wordOf colourLetter v n) r (now (out .exit)) ⌝ }
+// The letters of the first n of four lanes' numbers.
+fn put_word(out: &mut [u8], at: usize, letters: &[u8], v: [u16; 4], n: u16) -> usize
+    ensures { λ r. ⌜ Put (now (out .entry)) at (wordOf (now (letters .entry)) v n) r (now (out .exit)) ⌝ }
 {
     put_first(
         out,
         at,
-        colour_letter(v[0]),
-        colour_letter(v[1]),
-        colour_letter(v[2]),
-        colour_letter(v[3]),
+        letter_of(letters, v[0]),
+        letter_of(letters, v[1]),
+        letter_of(letters, v[2]),
+        letter_of(letters, v[3]),
         n,
     )
 }
 
-fn put_lower(out: &mut [u8], at: usize, v: [u16; 4], n: u16) -> usize
-    ensures { λ r. ⌜ Put (now (out .entry)) at (wordOf lampDigit v n) r (now (out .exit)) ⌝ }
-{
-    put_first(
-        out,
-        at,
-        lamp_digit(v[0]),
-        lamp_digit(v[1]),
-        lamp_digit(v[2]),
-        lamp_digit(v[3]),
-        n,
-    )
-}
-
+// The lamps of the first n lanes.
 pub fn put_lamps(out: &mut [u8], at: usize, s: Indications, n: u16) -> usize
     ensures { λ r. ⌜ Put (now (out .entry)) at (lampsText s n) r (now (out .exit)) ⌝ }
 {
     let p = text::put_byte(out, at, b' ');
     let colours = s.colours;
-    let q = put_colours(out, p, colours, n);
+    let q = put_word(out, p, b"DRYG", colours, n);
     let r = text::put_byte(out, q, b' ');
     let lower = s.lower;
-    let end = put_lower(out, r, lower, n);
+    let end = put_word(out, r, b"01", lower, n);
     phrases::put_blank_and_decimal(out, end, s.sign as u64)
 }

@@ -2,6 +2,8 @@
 mod decided;
 mod lamps;
 
+pub use decided::put_decision;
+pub use lamps::put_lamps;
 ghost use mathlib.Core.Path.{_≡_};
 ghost use Prim.Native.Nat.{_<_};
 ghost use Rattle.text.specs.Put.{Put};
@@ -49,7 +51,7 @@ fn hex_digit(n: u8) -> u8
 }
 
 // Bytes in hexadecimal.
-fn put_hex(out: &mut [u8], at: usize, bytes: &[u8]) -> usize
+pub fn put_hex(out: &mut [u8], at: usize, bytes: &[u8]) -> usize
     ensures { λ r. ⌜ Put (now (out .entry)) at (hexText (now (bytes .entry))) r (now (out .exit)) ⌝ }
 {
     let mut p = at;

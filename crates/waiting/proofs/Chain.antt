@@ -17,7 +17,8 @@ use Rattle.lanes.specs.declared.Lane.{Lane}
 use Rattle.lanes.specs.declared.Lanes.{Lanes}
 use Rattle.lanes.specs.Intervals.{riseOf}
 use Rattle.lanes.specs.Lanes.{laneOf, lanesTick, lanesEntered}
-use Rattle.lanes.proofs.LaneLaws.{by-test, tick-counter, lane-in, offset-ticked, last-ticked, entered-in, offset-entered, last-entered}
+use Rattle.loops.proofs.Cases.{by-test}
+use Rattle.lanes.proofs.LaneLaws.{tick-counter, lane-in, offset-ticked, last-ticked, entered-in, offset-entered, last-entered}
 use Rattle.release.specs.Release.{anyGreen, mayRelease, releasedOf, releaseOf}
 use Rattle.release.proofs.ReleaseLaws.{none-released, lane-goes, lane-stays, last-released, offset-released, released-in, may-release}
 use Rattle.group.specs.declared.Group.{Group}

@@ -14,7 +14,8 @@ use Rattle.timings.specs.declared.Timings.{Timings}
 use Rattle.lanes.specs.declared.Lanes.{Lanes}
 use Rattle.lanes.specs.Intervals.{lane}
 use Rattle.lanes.specs.Lanes.{laneOf, lanesTick, lanesEntered}
-use Rattle.lanes.proofs.LaneLaws.{by-test, lane-in, entered-in}
+use Rattle.loops.proofs.Cases.{by-test}
+use Rattle.lanes.proofs.LaneLaws.{lane-in, entered-in}
 use Rattle.release.specs.Release.{releasedOf, releaseOf}
 use Rattle.release.proofs.ReleaseLaws.{lane-goes, lane-stays, released-in, may-release, released-lane}
 use Rattle.group.specs.declared.Group.{Group}

@@ -8,7 +8,8 @@ use lib.Dec.{eqb}
 use Rattle.timings.specs.declared.Timings.{Timings}
 use Rattle.lanes.specs.declared.Lane.{Lane}
 use Rattle.lanes.specs.Intervals.{lane, riseOf, laneTick}
-use Rattle.lanes.proofs.LaneLaws.{by-test, rise-min, tick-cases, tick-counter}
+use Rattle.loops.proofs.Cases.{by-test}
+use Rattle.lanes.proofs.LaneLaws.{rise-min, tick-cases, tick-counter}
 use Rattle.group.proofs.RangeLaws.{LaneGood}
 
 -- The timings of a site that is not spoilt, as far as waiting goes.

@@ -13,10 +13,11 @@ use Rattle.timings.specs.declared.Timings.{Timings}
 use Rattle.lanes.specs.declared.Lanes.{Lanes}
 use Rattle.lanes.specs.Intervals.{lane, riseOf, laneTick}
 use Rattle.lanes.specs.Lanes.{laneOf, lanesTick}
-use Rattle.lanes.proofs.LaneLaws.{by-test, rise-min, lane-in, offset-ticked, last-ticked}
+use Rattle.loops.proofs.Cases.{by-test}
+use Rattle.lanes.proofs.LaneLaws.{rise-min, lane-in, offset-ticked, last-ticked}
 use Rattle.release.specs.Cycle.{roundedUp, offsetTicks}
 use Rattle.release.specs.Release.{anyGreen, mayRelease, readyAt, releasedOf, releaseOf}
-use Rattle.release.proofs.TurnLaws.{turns, turns-in, turns-most, Nearer, first-nearer}
+use Rattle.turns.proofs.TurnLaws.{turns, turns-in, turns-most, Nearer, first-nearer}
 use Rattle.release.proofs.CycleLaws.{up-most, up-least, up-grows}
 use Rattle.release.proofs.ReleaseLaws.{none-released, lane-stays, last-released, released-in, may-release, is-ready}
 use Rattle.group.proofs.RangeLaws.{LanesGood, lanes-keep, lanes-release}

@@ -31,7 +31,11 @@ pub struct Choice {
 fn kind_of(mode: u16) -> u16
     ensures { λ r. ⌜ r ≡ kindOf mode ⌝ }
 {
-    if mode < 3 { mode + 1 } else { 4 }
+    if mode < 3 {
+        mode + 1
+    } else {
+        inputs::RESPONSIVE
+    }
 }
 
 // The entry in force as a command; dark with none.
@@ -40,7 +44,7 @@ pub fn planned(rows: &[u16], place: u16) -> Command
 {
     if place == 0 {
         return Command {
-            kind: 1,
+            kind: inputs::DARK,
             rate: 0,
             table: 0,
         };
@@ -57,10 +61,10 @@ pub fn planned(rows: &[u16], place: u16) -> Command
 pub fn source_of(manual: Command, centre: Command) -> Source
     ensures { λ r. ⌜ r ≡ sourceOf manual centre ⌝ }
 {
-    if manual.kind != 0 {
+    if manual.kind != inputs::NONE {
         return Source::Manual;
     }
-    if centre.kind != 0 {
+    if centre.kind != inputs::NONE {
         return Source::Centre;
     }
     Source::Plan
@@ -122,19 +126,19 @@ fn responsive_choice(c: Command, rows: &[u16], count: u16, m: u16, p: Periods) -
 pub fn chosen(c: Command, rows: &[u16], count: u16, m: u16, p: Periods) -> Choice
     ensures { λ r. ⌜ r ≡ choiceOf c (now (rows .entry)) count m p ⌝ }
 {
-    if c.kind == 2 {
+    if c.kind == inputs::GREEN {
         return Choice {
             level: 0,
             wish: Wish::Green,
         };
     }
-    if c.kind == 3 {
+    if c.kind == inputs::FIXED {
         return Choice {
             level: 0,
             wish: Wish::Metering(c.rate),
         };
     }
-    if c.kind == 4 {
+    if c.kind == inputs::RESPONSIVE {
         return responsive_choice(c, rows, count, m, p);
     }
     Choice {

@@ -14,7 +14,8 @@ use Rattle.group.specs.Range.{colourSpoilt, laneSpoilt, laneKept, laneSpoiltAt,
 use Rattle.lanes.specs.Intervals.{riseOf, passagesOf, greenEnds, greenAt, yellowAt, laneTick}
 use Rattle.lanes.specs.Lanes.{laneOf, lanesOf, laneTickAt, lanesTick, laneEntered, lanesEntered}
 use Rattle.release.specs.Cycle.{roundedUp, cycleTicks, offsetTicks}
-use Rattle.release.specs.Release.{isReady, readyAt, anyGreen, mayRelease, nextLane, releasedOf, greenIf, releaseOf}
+use Rattle.release.specs.Release.{isReady, readyAt, anyGreen, mayRelease, releasedOf, greenIf, releaseOf}
+use Rattle.turns.specs.Turn.{nextOf}
 use Rattle.period.specs.Counting.{speedOf, timedOf, laneCounted, laneCountedAt, passagesAt, countedOf, nextSerial, closedOf, afterTick, greensAt, greenCounted, afterRelease}
 use Rattle.period.specs.Counts.{noPeriods, goodOf}
 use Rattle.period.specs.Range.{laneSpoilt as countsLaneSpoilt, laneKept as countsLaneKept, laneSpoiltAt as countsLaneSpoiltAt, meteredSpoilt, meteredKept, meteredSpoiltAt, countsSpoilt, lastTicks, periodsSpoilt}
@@ -37,7 +38,7 @@ use Rattle.levels.specs.Levels.{reachesOf, isSlow, isMet}
 use Rattle.worked_runs.specs.Starred.{Starred}
 
 pub starred : Starred
-unfolding waitingBound turnTicks atPowerUp answerTo isAccepted onward greenBegins allDark cycleTicks roundedUp dayTypeOf isDate daysBefore monthLength dayNumber weekdayOf inMonth todayOf monthBefore yesterdayOf isFloating inWeek isFixed isNamed measuresOf totalsOf goodOf isMet reachesOf isSlow wordsOf readOf sectionOf isGood rangeOf timingRange isWithin stateAfter answerAt releasesFrom releases inputRefusal tickRefusal timingsOf powerUpOf countedIn decidedIn cycleIn movedIn acceptedTick refusedTick tickOf stateSpoilt freshState allRed intervalOf lanesIn releasedIn groupOf lanesMoved movedWith movedOf colourShown lowerShown signShown laneShown indicationsOf ageOf timeOf successorOf nextInterval colourSpoilt laneSpoilt laneKept laneSpoiltAt lanesSpoilt groupSpoilt riseOf passagesOf greenEnds greenAt yellowAt laneTick laneOf lanesOf laneTickAt lanesTick laneEntered lanesEntered offsetTicks isReady readyAt anyGreen mayRelease nextLane releasedOf greenIf releaseOf speedOf timedOf laneCounted laneCountedAt passagesAt countedOf nextSerial closedOf afterTick greensAt greenCounted afterRelease noPeriods countsLaneSpoilt countsLaneKept countsLaneSpoiltAt meteredSpoilt meteredKept meteredSpoiltAt countsSpoilt lastTicks periodsSpoilt dayOf entryInForce commandInForce decisionOf plannedOf sourceOf choiceOf meteredBad laneBad samplesBad carriesNothing commandBad commandsBad clockBad spoiltOf spoiltSite rateRange tableRange
+unfolding waitingBound turnTicks atPowerUp answerTo isAccepted onward greenBegins allDark cycleTicks roundedUp dayTypeOf isDate daysBefore monthLength dayNumber weekdayOf inMonth todayOf monthBefore yesterdayOf isFloating inWeek isFixed isNamed measuresOf totalsOf goodOf isMet reachesOf isSlow wordsOf readOf sectionOf isGood rangeOf timingRange isWithin stateAfter answerAt releasesFrom releases inputRefusal tickRefusal timingsOf powerUpOf countedIn decidedIn cycleIn movedIn acceptedTick refusedTick tickOf stateSpoilt freshState allRed intervalOf lanesIn releasedIn groupOf lanesMoved movedWith movedOf colourShown lowerShown signShown laneShown indicationsOf ageOf timeOf successorOf nextInterval colourSpoilt laneSpoilt laneKept laneSpoiltAt lanesSpoilt groupSpoilt riseOf passagesOf greenEnds greenAt yellowAt laneTick laneOf lanesOf laneTickAt lanesTick laneEntered lanesEntered offsetTicks isReady readyAt anyGreen mayRelease nextOf releasedOf greenIf releaseOf speedOf timedOf laneCounted laneCountedAt passagesAt countedOf nextSerial closedOf afterTick greensAt greenCounted afterRelease noPeriods countsLaneSpoilt countsLaneKept countsLaneSpoiltAt meteredSpoilt meteredKept meteredSpoiltAt countsSpoilt lastTicks periodsSpoilt dayOf entryInForce commandInForce decisionOf plannedOf sourceOf choiceOf meteredBad laneBad samplesBad carriesNothing commandBad commandsBad clockBad spoiltOf spoiltSite rateRange tableRange
 starred = record {
   cycle-600 = refl;
   cycle-700 = refl;

@@ -4,14 +4,26 @@ use borrow.Author.Needs.{needs}
 use Rattle.lanes.proofs.tick.Statement.{statement}
 use Rattle.lanes.proofs.tick.Tie as tie
 
+array-read-tick-at : tie.Need-array-read-tick-at
+array-read-tick-at c = search needs
+
 tick-at-requires : tie.Need-tick-at-requires
 tick-at-requires c κs = search needs
+
+array-read-tick-at-2 : tie.Need-array-read-tick-at-2
+array-read-tick-at-2 c = search needs
 
 tick-at-requires-2 : tie.Need-tick-at-requires-2
 tick-at-requires-2 c κs = search needs
 
+array-read-tick-at-3 : tie.Need-array-read-tick-at-3
+array-read-tick-at-3 c = search needs
+
 tick-at-requires-3 : tie.Need-tick-at-requires-3
 tick-at-requires-3 c κs = search needs
+
+array-read-tick-at-4 : tie.Need-array-read-tick-at-4
+array-read-tick-at-4 c = search needs
 
 tick-at-requires-4 : tie.Need-tick-at-requires-4
 tick-at-requires-4 c κs = search needs
@@ -30,9 +42,13 @@ pub tick-spec : {M : Type 1} → statement M
 tick-spec =
     tie.close
     (tie.spec
+    array-read-tick-at
     tick-at-requires
+    array-read-tick-at-2
     tick-at-requires-2
+    array-read-tick-at-3
     tick-at-requires-3
+    array-read-tick-at-4
     tick-at-requires-4
     rise-requires
     of-lanes-requires

@@ -1,6 +1,7 @@
 -- The loop's invariant: what is left to look through answers as the whole does.
-use Rattle.release.specs.Release.{readyAt, nextLane, firstAfter}
-use Rattle.release.proofs.FirstLaws.{next-from-1, first-found, first-turn, first-end}
+use Rattle.release.specs.Release.{readyAt}
+use Rattle.turns.specs.Turn.{nextOf, firstAfter}
+use Rattle.turns.proofs.FirstLaws.{next-from-1, first-found, first-turn, first-end}
 use Prim.Native.Nat.{ℕ, _-_}
 use mathlib.Core.Path.{_≡_, refl, ap, sym, _∙_}
 use mathlib.Core.Bool.{Bool}
@@ -20,7 +21,7 @@ ready s = readyAt (s .args .t) (s .args .cycle) (s .args .demand) (s .args .s)
 is-ready : (c : tie.After-ready-at Inv-loop μ-loop)
     → let h = c .before .before .before in
     let s = h .before in
-    c .ready-at .result ≡ ready s (nextLane (s .args .t .lanes) (h .loop .k))
+    c .ready-at .result ≡ ready s (nextOf (s .args .t .lanes) (h .loop .k))
 is-ready c = c .ready-at .ensures ∙ ap (ready (c .before .before .before .before)) (c .before .next-lane .ensures)
 
 loop-holds : tie.Need-loop-holds Inv-loop μ-loop

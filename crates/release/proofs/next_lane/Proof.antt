@@ -1,5 +1,5 @@
 -- The code's tests are the definition's.
-use Rattle.release.specs.Release.{nextLane}
+use Rattle.turns.specs.Turn.{nextOf}
 use Rattle.loops.proofs.Rules.{tests}
 use borrow.Author.Needs.{needs}
 use Rattle.release.proofs.next_lane.Statement.{statement}
@@ -9,11 +9,11 @@ add-result : tie.Need-add-result
 add-result c = search needs
 
 returns : tie.Need-returns
-unfolding nextLane
+unfolding nextOf
 returns c = search tests
 
 returns-2 : tie.Need-returns-2
-unfolding nextLane
+unfolding nextOf
 returns-2 c = search tests
 
 pub next-lane-spec : {M : Type 1} → statement M

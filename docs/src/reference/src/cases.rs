@@ -1,79 +1,21 @@
-//! Random cases of what is wanted and of the poll record, and the line that each should give.
+//! Random sites, clocks, commands, periods and states, and cases made of them: what is wanted, and the poll record.
 
 use crate::calendar::{self, day_before, month_length, such_days, weekday, Clock, Date};
-use crate::periods::{halves, Counts, Periods};
-use crate::poll::poll;
+use crate::call_run::{payload, Op};
+use crate::periods::{Counts, Periods};
 use crate::random::Random;
 use crate::site::{self, bytes, Site, TIMINGS, UNUSED};
-use crate::tally::Tally;
-use crate::tick_run::{hex, wish_words};
-use crate::timetable::DAYS;
-use crate::wanted::{self, cycle, decide, measures, Command, Measures};
+use crate::tick::State;
+use crate::tick_cases::fresh;
+use crate::wanted::{measures, Command, Measures};
 
-const CASES: usize = 5000;
-pub const SEED: u64 = 1;
-const POLL_BUFFER: usize = 64;
-
-pub struct Case {
-    pub file: Vec<u8>,
-    pub clock: Clock,
-    pub commands: [Command; 2],
-    pub periods: Periods,
-}
-
-// The payload: two-byte numbers.
-
-pub fn payload(case: &Case) -> Vec<u8> {
-    let Clock { date, tenth } = case.clock;
-    let mut numbers = vec![date.year, date.month, date.day];
-    numbers.extend(halves(tenth));
-    numbers.extend(case.commands.iter().flat_map(|c| [c.kind, c.rate, c.table]));
-    numbers.push(case.periods.ticks);
-    numbers.extend(case.periods.current.words());
-    numbers.extend(halves(case.periods.serial));
-    numbers.extend(case.periods.last.words());
-    let mut out = (case.file.len() as u16).to_be_bytes().to_vec();
-    out.extend(&case.file);
-    out.extend(numbers.iter().flat_map(|n| n.to_be_bytes()));
-    out
-}
-
-// The line.
-
-fn decision_words(site: &Site, case: &Case) -> String {
-    let refusal = wanted::refusal(site, case.clock, case.commands, &case.periods);
-    if refusal != 0 {
-        return format!("{refusal} - - - - - - -");
-    }
-    let d = decide(site, case.clock, case.commands, &case.periods);
-    let (wish, rate) = wish_words(d.wish);
-    let cycle = if rate == 0 { 0 } else { cycle(site, rate) };
-    format!("0 {} {} {} {} {wish} {rate} {cycle}", DAYS[d.day], d.entry, d.source, d.level)
-}
-
-fn poll_words(site: &Site, p: &Periods) -> String {
-    match poll(site, p, POLL_BUFFER) {
-        Err(refusal) => format!("poll {refusal}"),
-        Ok(record) => format!("poll 0 {}", hex(&record)),
-    }
-}
-
-/// A case's line, with a decision and a poll, or why its file is refused.
-pub fn line(case: &Case, tally: &mut Tally) -> String {
-    let site = match site::read(&case.file) {
-        Err(r) => {
-            tally.refused(r.number);
-            return format!("site {} at {}\n", r.number, r.place);
-        }
-        Ok(site) => site,
-    };
-    let (n, m) = wanted::lanes(&site);
-    tally.count("sites", 1);
-    tally.count(if case.periods.spoilt(n, m) { "states spoilt" } else { "states in range" }, 1);
-    tally.count("decisions", 1);
-    tally.count("polls", 1);
-    tally.refused(wanted::refusal(&site, case.clock, case.commands, &case.periods));
-    format!("{} {}\n", decision_words(&site, case), poll_words(&site, &case.periods))
+/// A decision at a site and a state, and a poll into a buffer of so many bytes.
+struct Case {
+    file: Vec<u8>,
+    state: State,
+    clock: Clock,
+    commands: [Command; 2],
+    poll: u16,
 }
 
 // Periods in range.
@@ -327,7 +269,18 @@ pub fn starts(r: &mut Random) -> Vec<u16> {
     (0..r.from(1, 3)).map(|_| r.edged(0, latest)).collect()
 }
 
-/// A case with nothing out of range.
+/// The length of a buffer for a poll: with room, just enough, a byte less, or any.
+pub fn poll_size(r: &mut Random, n: usize, m: usize) -> u16 {
+    let record = (8 + 4 * n + 6 * m) as u16;
+    match r.from(0, 9) {
+        0 => record - 1,
+        1 => r.number(0, record),
+        2 => 64,
+        _ => record + r.number(0, 1),
+    }
+}
+
+/// A case with nothing out of range but, at times, the buffer.
 fn sound(r: &mut Random) -> Case {
     let timings = timings(r);
     let (n, m) = (timings[0] as usize, timings[14] as usize);
@@ -345,7 +298,8 @@ fn sound(r: &mut Random) -> Case {
     let levels = levels(r, measures(&periods.last, m), tables);
     let file = bytes(&Site { timings, entries, holidays, levels });
     let clock = Clock { date, tenth: tenth(r, &starts) };
-    Case { file, clock, commands: [command(r, tables), command(r, tables)], periods }
+    let state = State { periods, ..fresh(n, 0, 0) };
+    Case { file, state, clock, commands: [command(r, tables), command(r, tables)], poll: poll_size(r, n, m) }
 }
 
 // Damage.
@@ -384,13 +338,40 @@ fn damage_lane(r: &mut Random, p: &mut Periods) {
     }
 }
 
-pub fn damage_period(r: &mut Random, p: &mut Periods) {
+fn damage_period(r: &mut Random, p: &mut Periods) {
     match r.from(0, 9) {
         0..=4 => damage_count(r, p),
         5..=7 => damage_lane(r, p),
         // the counts of a completed period, at serial 0
         8 => p.serial = 0,
         _ => p.ticks = r.pick(&[300, 301, UNUSED]),
+    }
+}
+
+/// A lane's number out of range, or a lane of another colour than red where the lanes do not run.
+fn damage_kept_lane(r: &mut Random, state: &mut State) {
+    let lane = &mut state.lanes[r.from(0, 3) as usize];
+    match r.from(0, 4) {
+        0 => lane.age = r.pick(&[1, 720, 721, UNUSED]),
+        1 => lane.counter = r.pick(&[1, 720, 721, UNUSED]),
+        2 => lane.passages = r.pick(&[1, 3, 4, 256, UNUSED]),
+        3 => lane.colour = r.pick(&[0, 2, 3, 4, UNUSED]),
+        _ => {
+            lane.colour = r.pick(&[2, 3]);
+            state.interval = r.number(0, 9);
+        }
+    }
+}
+
+/// One number beyond its range, at times at its end, at a site of n lanes.
+pub fn damage_state(r: &mut Random, n: u16, state: &mut State) {
+    match r.from(0, 9) {
+        0 => state.interval = r.pick(&[9, 10, 11, 256, UNUSED]),
+        1 => state.age = r.pick(&[36000, 36001, UNUSED]),
+        2 => state.offset = r.pick(&[720, 721, UNUSED]),
+        3 => state.last = r.pick(&[0, n, n + 1, 5, UNUSED]),
+        4..=6 => damage_kept_lane(r, state),
+        _ => damage_period(r, &mut state.periods),
     }
 }
 
@@ -439,7 +420,7 @@ pub fn damage_file(r: &mut Random, file: &mut Vec<u8>) {
 
 fn damage(r: &mut Random, case: &mut Case) {
     match r.from(0, 9) {
-        0..=4 => damage_period(r, &mut case.periods),
+        0..=4 => damage_state(r, case.state.last, &mut case.state),
         5 | 6 => damage_clock(r, &mut case.clock),
         7 | 8 => damage_command(r, &mut case.commands),
         _ => damage_file(r, &mut case.file),
@@ -458,8 +439,11 @@ fn random_case(r: &mut Random) -> Case {
     case
 }
 
-pub fn cases(seed: u64) -> Vec<Case> {
+pub fn cases(r: &mut Random, many: usize) -> Vec<Vec<u8>> {
     assert_eq!(calendar::weekday(Date { year: 2000, month: 1, day: 1 }), 6);
-    let mut r = Random::new(seed);
-    (0..CASES).map(|_| random_case(&mut r)).collect()
+    let case = |case: Case| {
+        let ops = [Op::State(case.state), Op::Decide(case.clock, case.commands), Op::Poll(case.poll)];
+        payload(&case.file, &ops)
+    };
+    (0..many).map(|_| case(random_case(r))).collect()
 }

@@ -1,39 +1,48 @@
 //! Document 01 in plain Rust. `reference NAME` writes test inputs and what they should give:
 //!
 //! - `site-bounds stdin`, `site-bounds stdout`: the files of `crates/site_bounds`.
-//! - `wanted-cases stdin`, `wanted-cases stdout`: the files of `crates/wanted_cases`.
-//! - `tick-cases stdin`, `tick-cases stdout`: the files of `crates/tick_cases`.
-//! - `random PROGRAM SEED FOLDER`: fresh cases of a seed for one of these three programs, as FOLDER/stdin, and what they give,
+//! - `call-cases stdin`, `call-cases stdout`: the files of `crates/call_cases`.
+//! - `random PROGRAM SEED FOLDER`: fresh cases of a seed for one of these two programs, as FOLDER/stdin, and what they give,
 //!   as FOLDER/stdout; prints how many of each kind they are.
 //! - `random timetable SEED FOLDER`: site files for the timetable program, FOLDER/0/site.bin and so on, and what it prints of
 //!   all of them, as FOLDER/stdout.
-//! - `simulated-day stdin`, `simulated-day stdout`: the files of `crates/simulated_day`; `simulated-day samples`: what that
-//!   program prints of the samples alone.
+//! - `simulated-day stdin`: the site file of `crates/simulated_day`; `simulated-day`: what that program prints of the site file on
+//!   standard input; `simulated-day samples`: what it prints of the samples alone.
 //! - `timetable FILE`: what the timetable program prints of a file.
 //! - `replay FILE`: what the replay program prints of a site file and the ticks on standard input.
 //! - `replay-ticks`: the ticks of `crates/replay`.
 //! - `replay-cases stdout`: what `crates/replay_cases` prints.
 //! - `replay-files FOLDER`: the files that it reads.
-//! - `site-files FOLDER`: the site files that the timetable's test programs read.
+//! - `paper-site`: the site file of `crates/timetable`.
+//! - `timetable-cases stdout`: what `crates/timetable_cases` prints.
+//! - `timetable-files FOLDER`: the files that it reads.
 
 mod calendar;
+mod call_cases;
+mod call_run;
 mod cases;
 mod files;
 mod group;
 mod lanes;
+mod output;
 mod periods;
 mod poll;
 mod random;
 mod random_cases;
+mod record;
+mod refusal_cases;
 mod replay;
 mod replay_files;
+mod row;
 mod simulated_day;
 mod site;
+mod site_run;
 mod tally;
+mod text;
 mod tick;
 mod tick_cases;
-mod tick_run;
 mod timetable;
+mod timetable_files;
 mod timings;
 mod wanted;
 
@@ -46,38 +55,17 @@ fn framed(cases: &[Vec<u8>]) -> Vec<u8> {
     cases.iter().flat_map(|c| [&(c.len() as u16).to_be_bytes()[..], c].concat()).collect()
 }
 
-/// What `crates/site_bounds` prints.
-fn site_answers(files: &[Vec<u8>], tally: &mut Tally) -> String {
-    let answer = |file: &Vec<u8>| match site::read(file) {
-        Ok(site) => {
-            assert_eq!(&site::bytes(&site), file);
-            tally.count("sites", 1);
-            "accepted and rewritten\n".to_string()
-        }
-        Err(r) => {
-            tally.refused(r.number);
-            format!("refused {} at {}\n", r.number, r.place)
-        }
-    };
-    files.iter().map(answer).collect()
-}
-
 /// The stored cases of a program, or fresh ones of a seed, and what they give.
 fn cases_of(program: &str, seed: Option<u64>, tally: &mut Tally) -> (Vec<Vec<u8>>, String) {
     match program {
         "site-bounds" => {
             let files = seed.map_or_else(files::bound_files, random_cases::files);
-            let answers = site_answers(&files, tally);
+            let answers = files.iter().map(|file| site_run::answer(file, tally)).collect();
             (files, answers)
         }
-        "wanted-cases" => {
-            let cases = cases::cases(seed.unwrap_or(cases::SEED));
-            let answers = cases.iter().map(|case| cases::line(case, tally)).collect();
-            (cases.iter().map(cases::payload).collect(), answers)
-        }
         _ => {
-            let cases = seed.map_or_else(tick_cases::cases, random_cases::tick_cases);
-            let answers = cases.iter().map(|case| tick_run::answer(case, tally)).collect();
+            let cases = seed.map_or_else(call_cases::cases, random_cases::call_cases);
+            let answers = cases.iter().map(|case| call_run::answer(case, tally)).collect();
             (cases, answers)
         }
     }
@@ -88,11 +76,11 @@ fn main() -> Result<()> {
     let words: Vec<&str> = words.iter().map(String::as_str).collect();
     let mut out = std::io::stdout();
     match words[..] {
-        [program @ ("site-bounds" | "wanted-cases" | "tick-cases"), stream @ ("stdin" | "stdout")] => {
+        [program @ ("site-bounds" | "call-cases"), stream @ ("stdin" | "stdout")] => {
             let (cases, answers) = cases_of(program, None, &mut Tally::default());
             out.write_all(if stream == "stdin" { framed(&cases) } else { answers.into_bytes() }.as_slice())
         }
-        ["random", program @ ("site-bounds" | "wanted-cases" | "tick-cases"), seed, folder] => {
+        ["random", program @ ("site-bounds" | "call-cases"), seed, folder] => {
             let tally = &mut Tally::default();
             let (cases, answers) = cases_of(program, Some(seed.parse().expect("a seed")), tally);
             std::fs::write(format!("{folder}/stdin"), framed(&cases))?;
@@ -110,7 +98,11 @@ fn main() -> Result<()> {
             writeln!(out, "{} timetables", files.len())
         }
         ["simulated-day", "stdin"] => out.write_all(&site::bytes(&simulated_day::site())),
-        ["simulated-day", "stdout"] => out.write_all(simulated_day::print(&simulated_day::site()).as_bytes()),
+        ["simulated-day"] => {
+            let mut file = Vec::new();
+            std::io::stdin().read_to_end(&mut file)?;
+            out.write_all(simulated_day::print(&file).as_bytes())
+        }
         ["simulated-day", "samples"] => out.write_all(simulated_day::print_samples().as_bytes()),
         ["timetable", file] => out.write_all(timetable::print(&std::fs::read(file)?).as_bytes()),
         ["replay", file] => {
@@ -123,28 +115,9 @@ fn main() -> Result<()> {
         ["replay-ticks"] => out.write_all(replay_files::ticks().as_bytes()),
         ["replay-cases", "stdout"] => out.write_all(replay_files::answers().as_bytes()),
         ["replay-files", folder] => replay_files::files().iter().try_for_each(|(name, file)| std::fs::write(format!("{folder}/{name}"), file)),
-        ["site-files", folder] => {
-            let mut paper = files::site_a();
-            paper.entries = vec![[2, 330, 2, 600, 0], [2, 330, 2, 720, 0], [130, 1170, 0, 0, 0]];
-            let mut shuffled = files::site_a();
-            shuffled.entries = (0..16).map(|i| [255, [600, 0, 1439][i % 3], 2, 150 + i as u16, 0]).collect();
-            let longest = site::bytes(&files::longest());
-            let mut oversized = longest.clone();
-            oversized.resize(10_000, 7);
-            let mut bad = site::bytes(&files::site_with_rows());
-            bad[9] = 101;
-            let cases = [
-                ("paper.bin", site::bytes(&paper)),
-                ("empty_lists.bin", site::bytes(&files::site_a())),
-                ("rows.bin", site::bytes(&files::site_with_rows())),
-                ("equal_starts.bin", site::bytes(&shuffled)),
-                ("longest.bin", longest),
-                ("oversized.bin", oversized),
-                ("minimum_green.bin", bad),
-                ("zeros.bin", vec![0; 10_000]),
-            ];
-            cases.iter().try_for_each(|(name, file)| std::fs::write(format!("{folder}/{name}"), file))
-        }
+        ["paper-site"] => out.write_all(&site::bytes(&timetable_files::paper())),
+        ["timetable-cases", "stdout"] => out.write_all(timetable_files::answers().as_bytes()),
+        ["timetable-files", folder] => timetable_files::write(folder),
         _ => {
             eprintln!("reference: no such test: {words:?}");
             std::process::exit(2)

@@ -1,6 +1,7 @@
 //! Fresh random cases of a seed, in number: long runs, states that no run need reach, spoilt ones, and files, sites and inputs
-//! with something out of range. Behind each that is refused comes one that is not, so that every refusal is printed.
+//! with something out of range. Behind each that is refused comes one that is not.
 
+use crate::call_run::{from_power_up, timing, Op};
 use crate::cases;
 use crate::random::Random;
 use crate::site::{bytes, Site, TIMINGS, UNUSED};
@@ -9,7 +10,7 @@ use crate::tick_cases::{
     command, damage_input, fixed, jump, quiet, random_run, samples, setting, short_timings, strange_state,
     strange_states, Setting,
 };
-use crate::tick_run::{payload, Op};
+use crate::wanted::lanes;
 
 /// Cases of each kind in one seed.
 const RUNS: u16 = 24;
@@ -18,6 +19,7 @@ const STRANGE: u16 = 24;
 const SPOILT: u16 = 40;
 const REFUSED: u16 = 16;
 const DAMAGED: u16 = 10;
+const DECISIONS: usize = 5000;
 const FILES: usize = 5000;
 const TIMETABLES: usize = 40;
 
@@ -89,33 +91,6 @@ pub fn timetable_files(seed: u64) -> Vec<Vec<u8>> {
 
 // States.
 
-/// A lane's number out of range, or a lane of another colour than red where the lanes do not run.
-fn spoil_lane(r: &mut Random, state: &mut State) {
-    let lane = &mut state.lanes[r.from(0, 3) as usize];
-    match r.from(0, 4) {
-        0 => lane.age = r.pick(&[1, 720, 721, UNUSED]),
-        1 => lane.counter = r.pick(&[1, 720, 721, UNUSED]),
-        2 => lane.passages = r.pick(&[1, 3, 4, 256, UNUSED]),
-        3 => lane.colour = r.pick(&[0, 2, 3, 4, UNUSED]),
-        _ => {
-            lane.colour = r.pick(&[2, 3]);
-            state.interval = r.number(0, 9);
-        }
-    }
-}
-
-/// One number beyond its range, at times at its end.
-fn spoil_state(r: &mut Random, n: u16, state: &mut State) {
-    match r.from(0, 9) {
-        0 => state.interval = r.pick(&[9, 10, 11, 256, UNUSED]),
-        1 => state.age = r.pick(&[36000, 36001, UNUSED]),
-        2 => state.offset = r.pick(&[720, 721, UNUSED]),
-        3 => state.last = r.pick(&[0, n, n + 1, 5, UNUSED]),
-        4..=6 => spoil_lane(r, state),
-        _ => cases::damage_period(r, &mut state.periods),
-    }
-}
-
 fn any_state(r: &mut Random, s: &Setting) -> State {
     let cycle = r.number(20, 720);
     strange_state(r, &s.site.timings, cycle)
@@ -134,7 +109,7 @@ fn spoilt_states(r: &mut Random, s: &Setting) -> Vec<Op> {
     for _ in 0..60 {
         ops.extend([Op::State(any_state(r, s)), Op::Ticks(r.number(1, 4), sound_input(r, s))]);
         let mut state = any_state(r, s);
-        spoil_state(r, s.site.timings[0], &mut state);
+        cases::damage_state(r, s.site.timings[0], &mut state);
         let mut input = sound_input(r, s);
         // 13 goes before 8 to 10
         if r.percent(10) {
@@ -142,7 +117,7 @@ fn spoilt_states(r: &mut Random, s: &Setting) -> Vec<Op> {
         }
         ops.extend([Op::State(state), Op::Ticks(1, input)]);
         if r.percent(30) {
-            ops.push(Op::Poll);
+            ops.extend([any_poll(r, s), any_decision(r, s)]);
         }
     }
     ops
@@ -161,9 +136,30 @@ fn refused_inputs(r: &mut Random, s: &Setting) -> Vec<Op> {
     ops
 }
 
+// Buffers and decisions.
+
+fn any_decision(r: &mut Random, s: &Setting) -> Op {
+    let mut input = sound_input(r, s);
+    if r.percent(10) {
+        damage_input(r, s, &mut input);
+    }
+    Op::Decide(input.clock, input.commands)
+}
+
+fn any_poll(r: &mut Random, s: &Setting) -> Op {
+    let (n, m) = lanes(&s.site);
+    Op::Poll(cases::poll_size(r, n, m))
+}
+
+/// Into a buffer that just holds the site's file, one that is a byte shorter or longer, or any.
+fn any_write(r: &mut Random, s: &Setting) -> Op {
+    let (size, any) = (bytes(&s.site).len() as u16, r.number(0, 600));
+    Op::Write(r.pick(&[size - 1, size, size + 1, any]))
+}
+
 // Spoilt sites.
 
-fn damage_site(r: &mut Random, ops: &mut Vec<Op>) {
+fn damage_timing(r: &mut Random) -> Op {
     let i = r.from(0, 14) as usize;
     let (low, high) = TIMINGS[i];
     let value = match r.from(0, 4) {
@@ -173,21 +169,41 @@ fn damage_site(r: &mut Random, ops: &mut Vec<Op>) {
         3 => r.pick(&EDGES),
         _ => r.number(0, UNUSED),
     };
-    ops.push(Op::Damage(i as u16, value));
+    timing(i, value)
 }
 
-/// The site with a timing or two changed, a tick, a poll or a power-up, then the site of the file again.
+/// The count of a section with so many numbers in use and so many in all, a number in use, or one beyond.
+fn damage_list(r: &mut Random, section: u16, width: u16, used: u16, all: u16) -> Op {
+    let count = used / width;
+    let value = if r.percent(80) { r.pick(&EDGES) } else { r.number(0, UNUSED) };
+    match r.from(0, 3) {
+        0 => Op::Damage(section, 0, r.pick(&[count.wrapping_sub(1), count + 1, all / width, all / width + 1, value])),
+        1 if used < all => Op::Damage(section, r.number(used + 1, all), value),
+        _ if 0 < used => Op::Damage(section, r.number(1, used), value),
+        _ => Op::Damage(section, all, 1),
+    }
+}
+
+fn damage_site(r: &mut Random, s: &Setting) -> Op {
+    let Site { entries, holidays, levels, .. } = &s.site;
+    match r.from(0, 3) {
+        0 => damage_timing(r),
+        1 => damage_list(r, 1, 5, 5 * entries.len() as u16, 80),
+        2 => damage_list(r, 2, 4, 4 * holidays.len() as u16, 64),
+        _ => damage_list(r, 3, 5, 5 * levels.len() as u16, 120),
+    }
+}
+
+/// The record with a number or two changed and every call on it, then the record of the file again.
 fn spoilt_sites(r: &mut Random, s: &Setting) -> Vec<Op> {
     let mut ops = Vec::new();
     for _ in 0..150 {
-        damage_site(r, &mut ops);
+        ops.push(damage_site(r, s));
         if r.percent(10) {
-            damage_site(r, &mut ops);
+            ops.push(damage_site(r, s));
         }
         ops.push(Op::Ticks(1, sound_input(r, s)));
-        if r.percent(20) {
-            ops.push(Op::Poll);
-        }
+        ops.extend([any_decision(r, s), any_poll(r, s), any_write(r, s)]);
         let powered = r.percent(10);
         if powered {
             ops.extend([Op::PowerUp, Op::Ticks(1, sound_input(r, s))]);
@@ -221,13 +237,13 @@ fn busy_run(r: &mut Random, s: &Setting) -> Vec<Op> {
         ops.push(Op::Ticks(count, input));
         input.clock.tenth += count as u32;
     }
-    ops.push(Op::Poll);
+    ops.push(any_poll(r, s));
     ops
 }
 
-pub fn tick_cases(seed: u64) -> Vec<Vec<u8>> {
+pub fn call_cases(seed: u64) -> Vec<Vec<u8>> {
     let mut r = Random::new(seed);
-    let mut out = Vec::new();
+    let mut out = cases::cases(&mut r, DECISIONS);
     for k in 0..RUNS {
         let s = any_setting(&mut r, k);
         out.push(random_run(&mut r, &s));
@@ -242,7 +258,7 @@ pub fn tick_cases(seed: u64) -> Vec<Vec<u8>> {
         for k in 0..many {
             let s = any_setting(&mut r, 5 * k);
             let ops = ops(&mut r, &s);
-            out.push(payload(&bytes(&s.site), &ops));
+            out.push(from_power_up(&bytes(&s.site), &ops));
         }
     }
     out

@@ -66,6 +66,25 @@ fn wide_ticks() -> String {
     (0..302).map(|i| line(i).text()).collect()
 }
 
+/// A site of one metered and one mainline lane.
+fn narrow_site() -> Site {
+    let mut site = site_a();
+    (site.timings[0], site.timings[14]) = (1, 1);
+    site.entries = vec![[255, 0, 2, 900, 0]];
+    site
+}
+
+/// So many ticks there that more than two blocks of output are written, of 60,000 bytes or a line more each.
+fn long_ticks() -> String {
+    let line = |i: u32| Line {
+        clock: [2024, 2, 29, 36_000 + i],
+        lanes: vec![[1, (i % 50 == 20) as u32]],
+        mainline: vec![[1, i % 7, (i % 90 == 0) as u32, if i % 90 == 0 { 80 } else { 0 }]],
+        commands: [[0; 3]; 2],
+    };
+    (0..2700).map(|i| line(i).text()).collect()
+}
+
 /// The files that the test program reads.
 pub fn files() -> Vec<(&'static str, Vec<u8>)> {
     let mut bad = bytes(&site_with_rows());
@@ -79,6 +98,8 @@ pub fn files() -> Vec<(&'static str, Vec<u8>)> {
         ("wide.bin", bytes(&wide_site())),
         ("refused.bin", bad),
         ("wide.txt", wide_ticks().into_bytes()),
+        ("narrow.bin", bytes(&narrow_site())),
+        ("long.txt", long_ticks().into_bytes()),
         ("no_lines.txt", Vec::new()),
         ("good.txt", good.clone().into_bytes()),
         ("no_newline.txt", format!("{good}{line}").into_bytes()),
@@ -105,11 +126,12 @@ pub fn files() -> Vec<(&'static str, Vec<u8>)> {
 }
 
 /// The runs that the test program makes: a site file, and ticks.
-const RUNS: [(&str, &str); 26] = [
+const RUNS: [(&str, &str); 27] = [
     ("absent.bin", "good.txt"),
     ("refused.bin", "good.txt"),
     ("wide.bin", "wide.txt"),
     ("site.bin", "wide.txt"),
+    ("narrow.bin", "long.txt"),
     ("site.bin", "no_lines.txt"),
     ("site.bin", "good.txt"),
     ("site.bin", "no_newline.txt"),

@@ -4,13 +4,13 @@
 use crate::calendar::{Clock, Date};
 use crate::group::Indications;
 use crate::periods::Sample;
-use crate::site::{Site, UNUSED};
+use crate::site::{self, Site, UNUSED};
+use crate::text;
 use crate::tick::{poll_record, power_up, tick, Input};
 use crate::wanted::Command;
 
 const TICKS: u32 = 864_000;
 const SEED: u32 = 1;
-const POLL_BUFFER: usize = 64;
 
 /// Four lanes and six mainline lanes; metering is wanted all day, most of it responsive, and some level is always met.
 pub fn site() -> Site {
@@ -95,22 +95,29 @@ fn with_poll(sum: u32, poll: Result<Vec<u8>, u8>) -> u32 {
     }
 }
 
-/// What the program prints of the day at a site.
-pub fn print(site: &Site) -> String {
-    let (_, mut state) = power_up(site);
+/// What the program prints of a site file.
+pub fn print(file: &[u8]) -> String {
+    match site::read(file) {
+        Ok(site) => print_day(&site),
+        Err(r) => text::refusal(r),
+    }
+}
+
+fn print_day(site: &Site) -> String {
+    let (_, mut state) = power_up(Some(site));
     let mut samples = Samples(SEED);
     let (mut accepted, mut released, mut polled, mut sum) = (0, 0, 0, 0);
     for tenth in 0..TICKS {
         let (demand, passage, mainline) = samples.draw();
         let clock = Clock { date: Date { year: 2025, month: 1, day: 6 }, tenth };
         let input = Input { clock, demand, passage, mainline, commands: [Command::default(); 2] };
-        let answer = tick(site, &state, &input);
+        let answer = tick(Some(site), &state, &input);
         state = answer.state;
         accepted += (answer.refusal == 0) as u32;
         released += (answer.released != 0) as u32;
         sum = with_shown(sum, &answer.indications, answer.released);
         if state.periods.ticks == 0 {
-            sum = with_poll(sum, poll_record(site, &state, POLL_BUFFER));
+            sum = with_poll(sum, poll_record(Some(site), &state));
             polled += 1;
         }
     }

@@ -10,14 +10,14 @@ impl Tally {
         *self.0.entry(what).or_default() += many;
     }
 
-    /// What a tick, a decision or a file was refused for; 0 is nothing. A spoilt state is counted where it is given.
+    /// What a call or a file was refused for; 0 is nothing. A spoilt site or state is counted where it is given.
     pub fn refused(&mut self, refusal: u8) {
         let what = match refusal {
             1..=7 => "files refused",
             8 => "clocks refused",
             9 => "samples refused",
             10 => "commands refused",
-            14 => "sites spoilt",
+            11 => "buffers too small",
             _ => return,
         };
         self.count(what, 1);

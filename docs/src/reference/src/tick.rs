@@ -3,6 +3,7 @@
 use crate::calendar::{clock_ok, Clock};
 use crate::group::{Group, Indications, Interval, Wanted, OLDEST};
 use crate::lanes::{Colour, Lane, LONGEST, MOST_PASSAGES};
+use crate::output;
 use crate::periods::{halves, Periods, Sample};
 use crate::poll;
 use crate::site::{self, Site};
@@ -64,19 +65,6 @@ fn group_of(state: &State, n: usize) -> Group {
 
 // Checks.
 
-/// 14: a site record that no file could give.
-fn site_spoilt(site: &Site) -> bool {
-    let ok = |row: &[u16], f: fn(&[u16], usize) -> bool| (0..row.len()).all(|i| f(row, i));
-    !(site.timings.len() == 15
-        && ok(&site.timings, site::timing_ok)
-        && site.entries.len() <= 16
-        && site.entries.iter().all(|row| ok(row, site::entry_ok))
-        && site.holidays.len() <= 16
-        && site.holidays.iter().all(|row| ok(row, site::holiday_ok))
-        && site.levels.len() <= 24
-        && site.levels.iter().all(|row| ok(row, site::level_ok)))
-}
-
 /// A lane's number out of range, or a colour other than red where the lanes do not run.
 fn lane_spoilt(lane: &KeptLane, running: bool) -> bool {
     let colour_ok = match Colour::of(lane.colour) {
@@ -111,6 +99,13 @@ pub struct Input {
     pub commands: [Command; 2],
 }
 
+impl Input {
+    /// All zero but for the clock.
+    pub fn at(clock: Clock) -> Input {
+        Input { clock, demand: [0; 4], passage: [0; 4], mainline: [Sample::default(); 6], commands: [Command::default(); 2] }
+    }
+}
+
 fn sample_ok(s: &Sample) -> bool {
     s.working <= 1 && s.occupied <= 100 && s.vehicles <= 1 && s.speed <= 250
 }
@@ -122,11 +117,9 @@ fn samples_ok(site: &Site, input: &Input) -> bool {
     metered.into_iter().all(|sample| *sample <= 1) && input.mainline[..m].iter().all(sample_ok)
 }
 
-/// The checks of a tick in their order, 0 when all hold.
+/// The checks of a tick behind 14, in their order; 0 when all hold.
 fn refusal(site: &Site, state: &State, input: &Input) -> u8 {
-    if site_spoilt(site) {
-        14
-    } else if state_spoilt(site, state) {
+    if state_spoilt(site, state) {
         13
     } else if !clock_ok(input.clock) {
         8
@@ -139,13 +132,13 @@ fn refusal(site: &Site, state: &State, input: &Input) -> u8 {
     }
 }
 
-// Power-up, tick and poll.
+// Power-up, tick, decision, poll and write. Each takes the site of a record, or none where no file could give the record: 14.
 
 /// The refusal, 0 or 14, and the state; refused, it is all zero.
-pub fn power_up(site: &Site) -> (u8, State) {
-    if site_spoilt(site) {
+pub fn power_up(site: Option<&Site>) -> (u8, State) {
+    let Some(site) = site else {
         return (14, State::default());
-    }
+    };
     (0, keep(&Group::power_up(lanes(site).0), Periods::default()))
 }
 
@@ -161,14 +154,11 @@ pub struct Answer {
     pub released: usize,
 }
 
+pub const NOTHING_DECIDED: Decision = Decision { day: 0, entry: 0, source: "plan", level: 0, wish: Wish::Dark };
+
 /// The state as it came, and nothing decided.
-fn refused(refusal: u8, site: &Site, state: &State) -> Answer {
-    let indications = match refusal {
-        13 | 14 => Indications::default(),
-        _ => group_of(state, lanes(site).0).indications(),
-    };
-    let decision = Decision { day: 0, entry: 0, source: "plan", level: 0, wish: Wish::Dark };
-    Answer { refusal, state: *state, indications, decision, cycle: 0, released: 0 }
+fn refused(refusal: u8, indications: Indications, state: &State) -> Answer {
+    Answer { refusal, state: *state, indications, decision: NOTHING_DECIDED, cycle: 0, released: 0 }
 }
 
 fn accepted(site: &Site, state: &State, input: &Input) -> Answer {
@@ -201,22 +191,53 @@ fn accepted(site: &Site, state: &State, input: &Input) -> Answer {
     }
 }
 
-pub fn tick(site: &Site, state: &State, input: &Input) -> Answer {
+pub fn tick(site: Option<&Site>, state: &State, input: &Input) -> Answer {
+    let Some(site) = site else {
+        return refused(14, Indications::default(), state);
+    };
     match refusal(site, state, input) {
         0 => accepted(site, state, input),
-        number => refused(number, site, state),
+        13 => refused(13, Indications::default(), state),
+        number => refused(number, group_of(state, lanes(site).0).indications(), state),
     }
 }
 
-/// The poll record of the present site and state, or its refusal: 14, 13, 12, 11.
-pub fn poll_record(site: &Site, state: &State, buffer: usize) -> Result<Vec<u8>, u8> {
-    if site_spoilt(site) {
-        return Err(14);
-    }
+/// What is decided at a clock, under manual and communications commands; checks 14, 13, 8, 10.
+pub fn decision(site: Option<&Site>, state: &State, clock: Clock, commands: [Command; 2]) -> Result<Decision, u8> {
+    let site = site.ok_or(14)?;
     if state_spoilt(site, state) {
         return Err(13);
     }
-    poll::poll(site, &state.periods, buffer)
+    if !clock_ok(clock) {
+        return Err(8);
+    }
+    if !commands.iter().all(|c| command_ok(*c)) {
+        return Err(10);
+    }
+    Ok(decide(site, clock, commands, &state.periods))
+}
+
+/// The poll record; checks 14, 13, 12.
+pub fn poll_record(site: Option<&Site>, state: &State) -> Result<Vec<u8>, u8> {
+    let site = site.ok_or(14)?;
+    if state_spoilt(site, state) {
+        return Err(13);
+    }
+    if state.periods.serial == 0 {
+        return Err(12);
+    }
+    let (n, m) = lanes(site);
+    Ok(poll::record(n, m, &state.periods))
+}
+
+/// Polls into a buffer; checks 11 last.
+pub fn poll(site: Option<&Site>, state: &State, out: &mut [u8]) -> Result<usize, u8> {
+    output::write(&poll_record(site, state)?, out)
+}
+
+/// Writes the site's file; checks 14, 11.
+pub fn write(site: Option<&Site>, out: &mut [u8]) -> Result<usize, u8> {
+    output::write(&site::bytes(site.ok_or(14)?), out)
 }
 
 // The state as a row of numbers.

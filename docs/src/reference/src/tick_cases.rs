@@ -1,17 +1,16 @@
-//! The cases of the tick: the paper's runs, each limit from both sides, states that no run reaches, and long random runs.
+//! Stored cases of the tick: the paper's runs, each limit from both sides, states that no run reaches, and long random runs.
 //! The cases are made without the rules: a change of a rule changes what they print, never the cases.
 
 use crate::calendar::{Clock, Date};
+use crate::call_run::{from_power_up, timing, Op};
 use crate::cases;
 use crate::files::site_a;
 use crate::periods::{Counts, Sample};
 use crate::random::Random;
 use crate::site::{bytes, Site, TIMINGS, UNUSED};
 use crate::tick::{Input, KeptLane, State};
-use crate::tick_run::{payload, Op};
 use crate::wanted::Command;
 
-const SEED: u64 = 2;
 const RUNS: u16 = 24;
 const STRANGE: u16 = 12;
 
@@ -41,7 +40,11 @@ pub fn quiet(manual: Command) -> Input {
     }
 }
 
-fn in_demand(manual: Command) -> Input {
+/// Into a buffer with room for every record.
+pub const POLL: Op = Op::Poll(64);
+pub const DECIDE: Op = Op::Decide(Clock { date: Date { year: 2025, month: 1, day: 6 }, tenth: 288_000 }, [NONE, NONE]);
+
+pub fn in_demand(manual: Command) -> Input {
     Input { demand: [1; 4], ..quiet(manual) }
 }
 
@@ -54,7 +57,7 @@ fn with_timings(changes: &[(usize, u16)]) -> Site {
 }
 
 /// The kept lanes as power-up and entering metering leave them, in any interval.
-fn fresh(n: usize, interval: u16, age: u16) -> State {
+pub fn fresh(n: usize, interval: u16, age: u16) -> State {
     let mut state = State { interval, age, offset: 720, last: n as u16, ..State::default() };
     for lane in &mut state.lanes[..n] {
         *lane = KeptLane { colour: 1, age: 0, counter: 720, passages: 0 };
@@ -68,12 +71,12 @@ fn site_a_runs() -> Vec<Vec<u8>> {
     let always = |rate| vec![Op::Ticks(800, in_demand(fixed(rate)))];
     let long = vec![Op::Ticks(300, in_demand(fixed(150))), Op::Ticks(2200, in_demand(fixed(150)))];
     vec![
-        payload(&bytes(&site_a()), &always(600)),
-        payload(&bytes(&with_timings(&[(1, 1)])), &always(600)),
-        payload(&bytes(&site_a()), &always(700)),
-        payload(&bytes(&with_timings(&[(1, 1)])), &always(700)),
-        payload(&bytes(&with_timings(&[(2, 3)])), &long),
-        payload(&bytes(&with_timings(&[(0, 4), (1, 1), (2, 3)])), &long),
+        from_power_up(&bytes(&site_a()), &always(600)),
+        from_power_up(&bytes(&with_timings(&[(1, 1)])), &always(600)),
+        from_power_up(&bytes(&site_a()), &always(700)),
+        from_power_up(&bytes(&with_timings(&[(1, 1)])), &always(700)),
+        from_power_up(&bytes(&with_timings(&[(2, 3)])), &long),
+        from_power_up(&bytes(&with_timings(&[(0, 4), (1, 1), (2, 3)])), &long),
     ]
 }
 
@@ -83,7 +86,7 @@ fn file_lengths() -> Vec<Vec<u8>> {
     let longer = [&file[..], &[0]].concat();
     let green = bytes(&with_timings(&[(3, 101)]));
     let tick = vec![Op::Ticks(1, quiet(NONE))];
-    [&file[..37], &file, &longer, &green].into_iter().map(|f| payload(f, &tick)).collect()
+    [&file[..37], &file, &longer, &green].into_iter().map(|f| from_power_up(f, &tick)).collect()
 }
 
 /// Thanksgiving and the day after, the final Monday of May, and the days about them; green on holidays.
@@ -94,7 +97,7 @@ fn holiday_runs() -> Vec<u8> {
     let november = [21, 22, 27, 28, 29, 30].map(|day| at(2024, 11, day, 0));
     let may = [19, 25, 26, 27].map(|day| at(2025, 5, day, 0));
     let ticks = |clock: &Clock| Op::Ticks(2, Input { clock: *clock, ..quiet(NONE) });
-    payload(&bytes(&site), &november.iter().chain(&may).map(ticks).collect::<Vec<Op>>())
+    from_power_up(&bytes(&site), &november.iter().chain(&may).map(ticks).collect::<Vec<Op>>())
 }
 
 /// The entries of the timetable, about their starts.
@@ -110,7 +113,7 @@ fn entry_runs() -> Vec<u8> {
             ops.push(Op::Ticks(2, Input { clock, ..in_demand(NONE) }));
         }
     }
-    payload(&bytes(&site), &ops)
+    from_power_up(&bytes(&site), &ops)
 }
 
 /// 31 and then 32 vehicles on three good lanes against a flow of 1260; a fourth lane fails or there is none.
@@ -126,9 +129,9 @@ fn flow_run(m: u16) -> Vec<u8> {
         input
     };
     let period = |last: [u16; 3]| {
-        vec![Op::Ticks(10, input([1; 3])), Op::Ticks(1, input(last)), Op::Ticks(289, input([0; 3])), Op::Poll]
+        vec![Op::Ticks(10, input([1; 3])), Op::Ticks(1, input(last)), Op::Ticks(289, input([0; 3])), POLL]
     };
-    payload(&bytes(&site), &[period([1, 0, 0]), period([1, 1, 0]), period([1, 0, 0])].concat())
+    from_power_up(&bytes(&site), &[period([1, 0, 0]), period([1, 1, 0]), period([1, 0, 0])].concat())
 }
 
 fn paper() -> Vec<Vec<u8>> {
@@ -138,7 +141,7 @@ fn paper() -> Vec<Vec<u8>> {
 // Each interval at its limits.
 
 /// A site whose times are all different, the least of them 10.
-fn distinct() -> Site {
+pub fn distinct() -> Site {
     with_timings(&[
         (0, 3),
         (2, 2),
@@ -182,7 +185,7 @@ fn interval_limits() -> Vec<u8> {
             }
         }
     }
-    payload(&bytes(&distinct()), &ops)
+    from_power_up(&bytes(&distinct()), &ops)
 }
 
 /// Closing under lanes of each colour, whatever is wanted, up to shutdown red.
@@ -204,7 +207,7 @@ fn closings() -> Vec<u8> {
             ops.push(Op::Ticks(60, in_demand(wish)));
         }
     }
-    payload(&bytes(&distinct()), &ops)
+    from_power_up(&bytes(&distinct()), &ops)
 }
 
 /// Wishes that change while an interval runs its time, a minimum and a maximum counted from the interval's own start.
@@ -229,7 +232,7 @@ fn changing_wishes() -> Vec<u8> {
         ticks(30, fixed(900)),
         ticks(40, GREEN),
     ];
-    payload(&bytes(&distinct()), &ops)
+    from_power_up(&bytes(&distinct()), &ops)
 }
 
 /// Green without end, and a clear wish at the maximum: a tick short of it, at it.
@@ -238,7 +241,7 @@ fn long_green() -> Vec<u8> {
     let mut ops = vec![ticks(51, GREEN), ticks(37000, GREEN)];
     // periods are completed by now, without a level and with good lanes: clear
     ops.extend([ticks(1, RESPONSIVE), ticks(1, GREEN), ticks(598, GREEN), ticks(3, RESPONSIVE)]);
-    payload(&bytes(&distinct()), &ops)
+    from_power_up(&bytes(&distinct()), &ops)
 }
 
 // Lanes and release at their limits.
@@ -270,7 +273,7 @@ fn green_limits() -> Vec<u8> {
         let others = 1 - passage;
         ops.push(Op::Ticks(1, Input { passage: [others, passage, others, 0], ..quiet(fixed(900)) }));
     }
-    payload(&bytes(&distinct()), &ops)
+    from_power_up(&bytes(&distinct()), &ops)
 }
 
 /// A passage at the tick of release does not count; later ones do, in green alone, and the count stays.
@@ -287,7 +290,7 @@ fn passages_from_release(v: u16) -> Vec<u8> {
         ops.push(tick(4, 1));
         ops.push(tick(50, 0));
     }
-    payload(&bytes(&with_timings(&[(0, 1), (2, v), (4, 30)])), &ops)
+    from_power_up(&bytes(&with_timings(&[(0, 1), (2, v), (4, 30)])), &ops)
 }
 
 /// Who is released: every lane last, every set of demands, all lanes red for long.
@@ -303,7 +306,7 @@ fn turns() -> Vec<u8> {
             ops.push(Op::Ticks(1, Input { demand, ..quiet(fixed(1800)) }));
         }
     }
-    payload(&bytes(&with_timings(&[(0, 4)])), &ops)
+    from_power_up(&bytes(&with_timings(&[(0, 4)])), &ops)
 }
 
 /// Red age, cycle counter and offset counter on both sides of their limits; a rate that changes the cycle at once.
@@ -340,7 +343,7 @@ fn release_limits(mode: u16) -> Vec<u8> {
     }
     let mut site = distinct();
     site.timings[1] = mode;
-    payload(&bytes(&site), &ops)
+    from_power_up(&bytes(&site), &ops)
 }
 
 /// The clock and the wish may change between two greens: the cycle is that of the present rate.
@@ -360,7 +363,7 @@ fn changing_rates(mode: u16) -> Vec<u8> {
     ];
     let mut site = distinct();
     site.timings[1] = mode;
-    payload(&bytes(&site), &ops)
+    from_power_up(&bytes(&site), &ops)
 }
 
 fn limits() -> Vec<Vec<u8>> {
@@ -383,7 +386,7 @@ fn limits() -> Vec<Vec<u8>> {
 // Spoilt states.
 
 /// A state of `distinct` with every kind of count, its lanes red.
-fn counted() -> State {
+pub fn counted() -> State {
     let mut state = fresh(3, 7, 40);
     let counts = |ticks: u16| Counts {
         passages: [ticks - 1, 1, 2, 0],
@@ -504,8 +507,8 @@ fn states_at_limits() -> Vec<State> {
 
 fn spoilt_states() -> Vec<Vec<u8>> {
     let states = states_at_limits();
-    let ops = |state: &State| [Op::State(*state), Op::Ticks(1, quiet(fixed(900))), Op::Poll];
-    let case = |some: &[State]| payload(&bytes(&distinct()), &some.iter().flat_map(ops).collect::<Vec<Op>>());
+    let ops = |state: &State| [Op::State(*state), Op::Ticks(1, quiet(fixed(900))), DECIDE, POLL];
+    let case = |some: &[State]| from_power_up(&bytes(&distinct()), &some.iter().flat_map(ops).collect::<Vec<Op>>());
     states.chunks(100).map(case).collect()
 }
 
@@ -516,39 +519,39 @@ fn spoilt_sites() -> Vec<Vec<u8>> {
     let mut ops = Vec::new();
     for (i, (low, high)) in TIMINGS.iter().enumerate() {
         for value in [low.saturating_sub(1), *low, *high, high + 1, UNUSED] {
-            ops.extend([Op::Damage(i as u16, value), Op::Ticks(1, in_demand(fixed(600))), Op::Poll, Op::Repair]);
+            ops.extend([timing(i, value), Op::Ticks(1, in_demand(fixed(600))), POLL, Op::Repair]);
         }
     }
     // the maximum green below the minimum, and at it
     for green in [9, 10, 11] {
-        ops.extend([Op::Damage(4, green), Op::Ticks(2, in_demand(GREEN)), Op::Repair]);
+        ops.extend([timing(4, green), Op::Ticks(2, in_demand(GREEN)), Op::Repair]);
     }
     let zero = vec![
         Op::Ticks(70, in_demand(fixed(600))),
         // power-up under a spoilt site leaves zeros, which are spoilt under any site
-        Op::Damage(0, 5),
+        timing(0, 5),
         Op::PowerUp,
         Op::Ticks(2, quiet(GREEN)),
-        Op::Poll,
+        POLL,
         Op::Repair,
-        Op::Poll,
+        POLL,
         Op::Ticks(2, quiet(GREEN)),
         Op::PowerUp,
         Op::Ticks(60, in_demand(fixed(600))),
         // two timings at once: one of them repaired by hand
-        Op::Damage(3, 101),
-        Op::Damage(5, 61),
-        Op::Damage(3, 20),
+        timing(3, 101),
+        timing(5, 61),
+        timing(3, 20),
         Op::Ticks(1, quiet(GREEN)),
-        Op::Damage(5, 60),
+        timing(5, 60),
         Op::Ticks(1, quiet(GREEN)),
         Op::Repair,
         Op::Ticks(1, quiet(GREEN)),
     ];
     // power-up looks at every timing
-    let beyond = |i: usize| [Op::Damage(i as u16, TIMINGS[i].1 + 1), Op::PowerUp, Op::Repair];
+    let beyond = |i: usize| [timing(i, TIMINGS[i].1 + 1), Op::PowerUp, Op::Repair];
     let powered = [(0..15).flat_map(beyond).collect(), vec![Op::PowerUp]].concat();
-    [ops, zero, powered].iter().map(|ops| payload(&bytes(&site_a()), ops)).collect()
+    [ops, zero, powered].iter().map(|ops| from_power_up(&bytes(&site_a()), ops)).collect()
 }
 
 // Refused inputs.
@@ -638,7 +641,7 @@ fn refused_inputs() -> Vec<Vec<u8>> {
     let case = |some: &[Input]| {
         let mut ops = vec![Op::State(state)];
         ops.extend(some.iter().map(|input| Op::Ticks(1, *input)));
-        payload(&bytes(&distinct()), &ops)
+        from_power_up(&bytes(&distinct()), &ops)
     };
     let mut out: Vec<Vec<u8>> = inputs.chunks(40).map(case).collect();
 
@@ -649,14 +652,14 @@ fn refused_inputs() -> Vec<Vec<u8>> {
     for interval in 0..11 {
         ops.extend([Op::State(fresh(3, interval, 7)), Op::Ticks(2, bad)]);
     }
-    ops.extend([Op::Damage(14, 7), Op::Ticks(2, bad), Op::Repair, Op::Ticks(1, bad)]);
+    ops.extend([timing(14, 7), Op::Ticks(2, bad), Op::Repair, Op::Ticks(1, bad)]);
     // the tenth goes round: two bad ones, then 0; and out of the day
     let mut round = quiet(GREEN);
     round.clock.tenth = u32::MAX - 1;
     let mut out_of_day = quiet(GREEN);
     out_of_day.clock.tenth = 863_990;
     ops.extend([Op::PowerUp, Op::Ticks(4, round), Op::Ticks(20, out_of_day)]);
-    out.push(payload(&bytes(&distinct()), &ops));
+    out.push(from_power_up(&bytes(&distinct()), &ops));
     out
 }
 
@@ -665,7 +668,7 @@ fn refused_inputs() -> Vec<Vec<u8>> {
 /// Releases at the last tick of a period and about it, polls at each stage, serials at their end.
 fn periods() -> Vec<u8> {
     let mut ops =
-        vec![Op::Poll, Op::Ticks(299, in_demand(fixed(900))), Op::Poll, Op::Ticks(1, in_demand(fixed(900))), Op::Poll];
+        vec![POLL, Op::Ticks(299, in_demand(fixed(900))), POLL, Op::Ticks(1, in_demand(fixed(900))), POLL];
     for serial in [0, 65535, u32::MAX - 1, u32::MAX] {
         for ticks in [298, 299, 0] {
             let mut state = counted();
@@ -681,15 +684,15 @@ fn periods() -> Vec<u8> {
             ops.push(Op::State(state));
             let passage = [1, 0, 1, 0];
             ops.push(Op::Ticks(1, Input { passage, ..in_demand(fixed(900)) }));
-            ops.push(Op::Poll);
+            ops.push(POLL);
             ops.push(Op::Ticks(3, Input { passage, ..in_demand(fixed(900)) }));
         }
-        ops.extend([Op::Ticks(300, in_demand(fixed(1500))), Op::Poll]);
+        ops.extend([Op::Ticks(300, in_demand(fixed(1500))), POLL]);
     }
     // 14, 13, 12
-    ops.extend([Op::Damage(0, 0), Op::Poll, Op::State(fresh(3, 10, 0)), Op::Poll, Op::Repair, Op::Poll]);
-    ops.extend([Op::PowerUp, Op::Poll, Op::State(fresh(2, 7, 0)), Op::Poll]);
-    payload(&bytes(&distinct()), &ops)
+    ops.extend([timing(0, 0), POLL, Op::State(fresh(3, 10, 0)), POLL, Op::Repair, POLL]);
+    ops.extend([Op::PowerUp, POLL, Op::State(fresh(2, 7, 0)), POLL]);
+    from_power_up(&bytes(&distinct()), &ops)
 }
 
 /// The wish of the tick that closes a period looks at that period, and clear becomes metering at it.
@@ -708,9 +711,9 @@ fn closing_wish() -> Vec<u8> {
     let ops = [
         Op::Ticks(299, input(29, 61, 1)),
         Op::Ticks(1, input(100, 61, 1)),
-        Op::Poll,
+        POLL,
         Op::Ticks(300, input(30, 60, 1)),
-        Op::Poll,
+        POLL,
         Op::Ticks(1, input(60, 60, 2)),
         Op::Ticks(298, input(60, 60, 1)),
         Op::Ticks(2, input(60, 60, 1)),
@@ -718,25 +721,25 @@ fn closing_wish() -> Vec<u8> {
         Op::Ticks(1, failed),
         Op::Ticks(1, all_failed),
         Op::Ticks(299, input(1, 90, 2)),
-        Op::Poll,
+        POLL,
         Op::Ticks(300, input(1, 90, 2)),
-        Op::Poll,
+        POLL,
     ];
-    payload(&bytes(&site), &ops)
+    from_power_up(&bytes(&site), &ops)
 }
 
 /// Operations that end a case: an unknown one, and ones cut short.
 fn cut_operations() -> Vec<Vec<u8>> {
     let file = bytes(&site_a());
-    let ops = [Op::Ticks(2, quiet(GREEN)), Op::Poll];
-    let whole = payload(&file, &ops);
+    let ops = [Op::Ticks(2, quiet(GREEN)), POLL];
+    let whole = from_power_up(&file, &ops);
     let more = |words: &[u16]| [&whole[..], &words.iter().flat_map(|w| w.to_be_bytes()).collect::<Vec<u8>>()].concat();
     let cut = |op: Op, short: usize| {
-        let bytes = payload(&file, &[ops[0].clone(), op]);
+        let bytes = from_power_up(&file, &[ops[0].clone(), op]);
         bytes[..bytes.len() - short].to_vec()
     };
     vec![
-        payload(&file, &[]),
+        from_power_up(&file, &[]),
         more(&[0, 5, 6]),
         more(&[7, 5]),
         more(&[UNUSED]),
@@ -744,7 +747,7 @@ fn cut_operations() -> Vec<Vec<u8>> {
         cut(Op::Ticks(2, quiet(GREEN)), 2),
         cut(Op::State(fresh(2, 7, 0)), 2),
         cut(Op::State(fresh(2, 7, 0)), 1),
-        cut(Op::Poll, 1),
+        cut(POLL, 1),
         cut(Op::PowerUp, 2),
     ]
 }
@@ -890,14 +893,14 @@ fn interruption(r: &mut Random, s: &Setting, input: &Input, ops: &mut Vec<Op>) {
         }
         6 => {
             let beyond = if r.percent(50) { TIMINGS[i].1 + 1 } else { TIMINGS[i].0.saturating_sub(1) };
-            ops.extend([Op::Damage(i as u16, beyond), Op::Ticks(r.number(1, 3), bad), Op::Repair]);
+            ops.extend([timing(i, beyond), Op::Ticks(r.number(1, 3), bad), Op::Repair]);
         }
         // a site that another file could give, for a while
         7 => {
             let value = r.number(TIMINGS[i].0, TIMINGS[i].1.min(TIMINGS[i].0 + 30));
-            ops.extend([Op::Damage(i as u16, value), Op::Ticks(r.number(1, 40), bad), Op::Repair]);
+            ops.extend([timing(i, value), Op::Ticks(r.number(1, 40), bad), Op::Repair]);
         }
-        8..=11 => ops.push(Op::Poll),
+        8..=11 => ops.push(POLL),
         12 if r.percent(40) => ops.push(Op::PowerUp),
         _ => {}
     }
@@ -920,8 +923,8 @@ pub fn random_run(r: &mut Random, s: &Setting) -> Vec<u8> {
         ops.push(Op::Ticks(count, input));
         input.clock.tenth += count as u32;
     }
-    ops.push(Op::Poll);
-    payload(&bytes(&s.site), &ops)
+    ops.push(POLL);
+    from_power_up(&bytes(&s.site), &ops)
 }
 
 // States in range that no run need reach.
@@ -993,21 +996,20 @@ pub fn strange_states(r: &mut Random, s: &Setting) -> Vec<u8> {
         }
         ops.push(Op::Ticks(count, input));
     }
-    payload(&bytes(&s.site), &ops)
+    from_power_up(&bytes(&s.site), &ops)
 }
 
-pub fn cases() -> Vec<Vec<u8>> {
-    let mut r = Random::new(SEED);
+pub fn cases(r: &mut Random) -> Vec<Vec<u8>> {
     let mut out = [paper(), limits(), spoilt_states(), spoilt_sites(), refused_inputs()].concat();
     out.extend([periods(), closing_wish()]);
     out.extend(cut_operations());
     for k in 0..STRANGE {
-        let s = setting(&mut r, |r| short_timings(r, 7 * k));
-        out.push(strange_states(&mut r, &s));
+        let s = setting(r, |r| short_timings(r, 7 * k));
+        out.push(strange_states(r, &s));
     }
     for k in 0..RUNS {
-        let s = setting(&mut r, |r| short_timings(r, k));
-        out.push(random_run(&mut r, &s));
+        let s = setting(r, |r| short_timings(r, k));
+        out.push(random_run(r, &s));
     }
     out
 }

@@ -1,6 +1,7 @@
 //! What the timetable program prints.
 
 use crate::site;
+use crate::text;
 use std::fmt::Write;
 
 pub const DAYS: [&str; 8] = ["Sun", "Mon", "Tue", "Wed", "Thu", "Fri", "Sat", "Hol"];
@@ -9,7 +10,7 @@ const MODES: [&str; 4] = ["dark", "green", "fixed", "resp"];
 pub fn print(file: &[u8]) -> String {
     let site = match site::read(file) {
         Ok(site) => site,
-        Err(r) => return format!("refused {} at {}\n", r.number, r.place),
+        Err(r) => return text::refusal(r),
     };
     let mut out = String::from("day start mode rate table filed\n");
     for (day, name) in DAYS.iter().enumerate() {

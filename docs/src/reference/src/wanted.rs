@@ -1,6 +1,6 @@
 //! 'Day and entry' and 'What is wanted' of document 01.
 
-use crate::calendar::{clock_ok, day_type, Clock};
+use crate::calendar::{day_type, Clock};
 use crate::periods::{Counts, Periods};
 use crate::site::{rate_ok, table_ok, Site, UNUSED};
 
@@ -115,21 +115,6 @@ fn wish(site: &Site, mode: u16, rate: u16, table: u16, p: &Periods) -> (usize, W
         2 => (0, Wish::Metering(rate)),
         _ => responsive(site, rate, table, p),
     }
-}
-
-/// A tick's checks 13 of the periods, 8 and 10; the site came from a file, so 14 does not hold.
-pub fn refusal(site: &Site, clock: Clock, commands: [Command; 2], p: &Periods) -> u8 {
-    let (n, m) = lanes(site);
-    if p.spoilt(n, m) {
-        return 13;
-    }
-    if !clock_ok(clock) {
-        return 8;
-    }
-    if !commands.iter().all(|c| command_ok(*c)) {
-        return 10;
-    }
-    0
 }
 
 /// A manual command of kind 1-4 rules; else communications; else the entry; with none, dark.

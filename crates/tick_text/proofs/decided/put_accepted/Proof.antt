@@ -1,15 +1,12 @@
--- The four parts of the text.
+-- The three parts of the text.
 use Rattle.text.proofs.PutLaws.{put-then}
 use Rattle.tick_text.specs.Decided.{acceptedText}
 use borrow.Author.Needs.{needs}
 use Rattle.tick_text.proofs.decided.put_accepted.Statement.{statement}
 use Rattle.tick_text.proofs.decided.put_accepted.Tie as tie
 
-put-ruling-requires : tie.Need-put-ruling-requires
-put-ruling-requires c κs = search needs
-
-put-wished-requires : tie.Need-put-wished-requires
-put-wished-requires c κs = search needs
+put-decision-requires : tie.Need-put-decision-requires
+put-decision-requires c κs = search needs
 
 put-blank-and-decimal-requires : tie.Need-put-blank-and-decimal-requires
 put-blank-and-decimal-requires c κs = search needs
@@ -23,21 +20,18 @@ same-length c = search needs
 returns : tie.Need-returns
 unfolding acceptedText
 returns c =
-    let p4 = c .before .before in
-    let p3 = p4 .before .before .before .before in
+    let p3 = c .before .before in
     let p2 = p3 .before .before .before .before in
     let p1 = p2 .before .before .before .before in
-    put-then (search needs) (p1 .put-ruling .ensures)
-    (λ l. put-then l (p2 .put-wished .ensures)
-    (λ l. put-then l (p3 .put-blank-and-decimal .ensures)
-    (λ _. p4 .put-blank-and-decimal2 .ensures)))
+    put-then (search needs) (p1 .put-decision .ensures)
+    (λ l. put-then l (p2 .put-blank-and-decimal .ensures)
+    (λ _. p3 .put-blank-and-decimal2 .ensures))
 
 pub put-accepted-spec : {M : Type 1} → statement M
 put-accepted-spec =
     tie.close
     (tie.spec
-    put-ruling-requires
-    put-wished-requires
+    put-decision-requires
     put-blank-and-decimal-requires
     put-blank-and-decimal-requires-2
     same-length

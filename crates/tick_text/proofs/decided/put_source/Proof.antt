@@ -48,8 +48,6 @@ same-length-3 c = search needs
 returns-3 : tie.Need-returns-3
 returns-3 c = let p = c .before .before in rw (p .before .before .before .enum-told3 .given .1) (p .put-bytes3 .ensures)
 
--- Each case is the definition's word.
-
 pub put-source-spec : {M : Type 1} → statement M
 put-source-spec =
     tie.close

@@ -63,8 +63,6 @@ same-length-4 c = search needs
 returns-4 : tie.Need-returns-4
 returns-4 c = let p = c .before .before in rw (p .before .before .before .enum-told4 .given .1) (p .put-bytes4 .ensures)
 
--- Each case is the definition's word.
-
 pub put-wish-spec : {M : Type 1} → statement M
 put-wish-spec =
     tie.close

@@ -1,0 +1,157 @@
+// The numbers of an operation; its kind is number 0. Of ticks: their count is 1, the first one's row
+// begins at 2. Of a decision: its row begins at 1. Of a state: the interval is 1, the lanes begin
+// at 3, the open period at 21, the serial is 66 and the completed period begins at 68.
+ghost use mathlib.Core.Path.{_≡_};
+ghost use Prim.Native.Nat.{_≤_};
+ghost use lib.ListN.{length};
+use calendar::Clock;
+use group::Group;
+use lanes::Lanes;
+use period::Counts;
+use period::Periods;
+use state::State;
+use tick::Input;
+
+fn long(high: u16, low: u16) -> u32 {
+    (high as u32) * 65536 + (low as u32)
+}
+
+// Numbers i and i + 1 as one.
+fn long_at(op: &[u8], i: usize) -> u32
+    requires { ⌜ i ≤ 200 ⌝ }
+{
+    long(numbers::word(op, i), numbers::word(op, i + 1))
+}
+
+fn four(op: &[u8], at: usize) -> [u16; 4]
+    requires { ⌜ at ≤ 200 ⌝ }
+{
+    [
+        numbers::word(op, at),
+        numbers::word(op, at + 1),
+        numbers::word(op, at + 2),
+        numbers::word(op, at + 3),
+    ]
+}
+
+fn six(op: &[u8], at: usize) -> [u16; 6]
+    requires { ⌜ at ≤ 200 ⌝ }
+{
+    [
+        numbers::word(op, at),
+        numbers::word(op, at + 1),
+        numbers::word(op, at + 2),
+        numbers::word(op, at + 3),
+        numbers::word(op, at + 4),
+        numbers::word(op, at + 5),
+    ]
+}
+
+fn six_long(op: &[u8], at: usize) -> [u32; 6]
+    requires { ⌜ at ≤ 100 ⌝ }
+{
+    [
+        long_at(op, at),
+        long_at(op, at + 2),
+        long_at(op, at + 4),
+        long_at(op, at + 6),
+        long_at(op, at + 8),
+        long_at(op, at + 10),
+    ]
+}
+
+// Ticks.
+
+// The numbers of a row that begins at number `at`; of a shorter row those behind it too.
+fn row(op: &[u8], at: usize) -> [u16; 43]
+    requires { ⌜ at ≤ 200 ⌝ }
+    ensures { λ r. ⌜ 43 ≡ length r ⌝ }
+{
+    let mut row = [0u16; 43];
+    let mut i: usize = 0;
+    while i < 43 {
+        row[i] = numbers::word(op, at + i);
+        i += 1;
+    }
+    row
+}
+
+// The input of the first tick: a row of four and six lanes, so that samples beyond a site's lanes
+// are sent too.
+pub fn of_tick(op: &[u8]) -> Input {
+    let row = row(op, 2);
+    tick_row::input_of(&row, 4, 6)
+}
+
+// The clock and the commands of a decision: a row of no lanes.
+pub fn of_decision(op: &[u8]) -> Input {
+    let row = row(op, 1);
+    tick_row::input_of(&row, 0, 0)
+}
+
+// The same so many ticks later.
+pub fn later(input: Input, ticks: u16) -> Input {
+    let clock = input.clock;
+    let date = clock.date;
+    let lanes = input.lanes;
+    let main = input.main;
+    let manual = input.manual;
+    let centre = input.centre;
+    Input {
+        clock: Clock {
+            date,
+            tenth: std::num::wrapping_add_u32(clock.tenth, ticks as u32),
+        },
+        lanes,
+        main,
+        manual,
+        centre,
+    }
+}
+
+// States.
+
+fn lanes(op: &[u8]) -> Lanes {
+    Lanes {
+        colours: four(op, 3),
+        ages: four(op, 7),
+        counters: four(op, 11),
+        passages: four(op, 15),
+        offset: numbers::word(op, 19),
+        last: numbers::word(op, 20),
+    }
+}
+
+fn counts(op: &[u8], at: usize) -> Counts
+    requires { ⌜ at ≤ 68 ⌝ }
+{
+    Counts {
+        passages: four(op, at),
+        greens: four(op, at + 4),
+        worked: six(op, at + 8),
+        vehicles: six(op, at + 14),
+        occupied: six(op, at + 20),
+        timed: six(op, at + 26),
+        speeds: six_long(op, at + 32),
+    }
+}
+
+fn periods(op: &[u8]) -> Periods {
+    Periods {
+        ticks: numbers::word(op, 21),
+        current: counts(op, 22),
+        serial: long_at(op, 66),
+        last: counts(op, 68),
+    }
+}
+
+pub fn state(op: &[u8]) -> State {
+    State {
+        group: Group {
+            interval: numbers::word(op, 1),
+            age: numbers::word(op, 2),
+            lanes: lanes(op),
+        },
+        periods: periods(op),
+    }
+}

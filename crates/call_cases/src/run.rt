@@ -1,0 +1,213 @@
+// A controller at a site, and the operations on it.
+ghost use Prim.Native.Nat.{_≤_};
+ghost use lib.ListN.{length};
+use crate::input;
+use crate::print;
+use crate::print::Line;
+use crate::site_record;
+use site::Site;
+use state::State;
+use tick::Input;
+use tick::Ticked;
+
+struct Run {
+    // the record that the site file gave, and the present one
+    given: Site,
+    site: Site,
+    state: State,
+}
+
+// The kinds of operations.
+const TICKS: u16 = 1;
+
+const STATE: u16 = 2;
+
+const DAMAGE: u16 = 3;
+
+const REPAIR: u16 = 4;
+
+const POWER_UP: u16 = 5;
+
+const POLL: u16 = 6;
+
+const DECIDE: u16 = 7;
+
+const WRITE: u16 = 8;
+
+// The state is that of power-up at the present site.
+fn power_up(mut run: Run) -> Run {
+    let site = run.site;
+    let powered = tick::power_up(site);
+    let state = powered.state;
+    print::powered(powered.refusal);
+    print::state(state);
+    run.state = state;
+    run
+}
+
+// Prints a tick that releases a lane, and one whose line differs from the line before.
+fn print_tick(number: u16, ticked: Ticked, before: Line) -> Line {
+    let line = print::line_of(ticked);
+    if ticked.released == 0 {
+        if print::same(line, before) {
+            return line;
+        }
+    }
+    print::ticked(number, line);
+    line
+}
+
+// So many ticks at a site, the first with this input; gives the state behind them.
+fn run_ticks(site: Site, first: State, count: u16, input: Input) -> State {
+    let mut state = first;
+    let mut line = print::no_line();
+    let mut done: u16 = 0;
+    while done < count {
+        let ticked = tick::tick(site, state, input::later(input, done));
+        done += 1;
+        line = print_tick(done, ticked, line);
+        state = ticked.state;
+    }
+    state
+}
+
+fn ticks(mut run: Run, op: &[u8]) -> Run {
+    let site = run.site;
+    let before = run.state;
+    let after = run_ticks(site, before, numbers::word(op, 1), input::of_tick(op));
+    print::state(after);
+    run.state = after;
+    run
+}
+
+fn replace_state(mut run: Run, op: &[u8]) -> Run {
+    let state = input::state(op);
+    run.state = state;
+    run
+}
+
+fn damage(mut run: Run, op: &[u8]) -> Run {
+    let before = run.site;
+    let place = numbers::word(op, 2) as usize;
+    let site = site_record::with_number(before, numbers::word(op, 1), place, numbers::word(op, 3));
+    run.site = site;
+    run
+}
+
+fn repair(mut run: Run) -> Run {
+    let given = run.given;
+    run.site = given;
+    run
+}
+
+fn poll_into(site: Site, state: State, out: &mut [u8]) {
+    let written = poll::poll(site, state, out);
+    print::polled(written, out);
+}
+
+fn poll_now(run: Run, op: &[u8]) -> Run {
+    let site = run.site;
+    let state = run.state;
+    let mut buffer = test_output::buffer();
+    let end = test_output::within(&buffer, numbers::word(op, 1) as usize);
+    poll_into(site, state, &mut buffer[..end]);
+    run
+}
+
+fn decide_now(run: Run, op: &[u8]) -> Run {
+    let site = run.site;
+    let state = run.state;
+    let input = input::of_decision(op);
+    let clock = input.clock;
+    let manual = input.manual;
+    let centre = input.centre;
+    let decided = decide::decide(site, state, clock, manual, centre);
+    let decision = decided.decision;
+    let timings = site::timings_of(site);
+    print::decided(decided.refusal, decision, timings.vehicles);
+    run
+}
+
+fn write_into(site: Site, buffer: &mut [u8], size: usize) {
+    let end = test_output::within(buffer, size);
+    let written = site_writer::write(site, &mut buffer[..end]);
+    print::written(written, test_output::untouched(buffer, written.count));
+}
+
+fn write_now(run: Run, op: &[u8]) -> Run {
+    let site = run.site;
+    let mut buffer = test_output::buffer();
+    write_into(site, &mut buffer, numbers::word(op, 1) as usize);
+    run
+}
+
+fn run_op(run: Run, op: &[u8]) -> Run {
+    let kind = numbers::word(op, 0);
+    match kind {
+        TICKS => ticks(run, op),
+        STATE => replace_state(run, op),
+        DAMAGE => damage(run, op),
+        REPAIR => repair(run),
+        POWER_UP => power_up(run),
+        POLL => poll_now(run, op),
+        DECIDE => decide_now(run, op),
+        WRITE => write_now(run, op),
+        _ => run,
+    }
+}
+
+// How many numbers an operation has; 0 for one that there is not.
+fn op_numbers(kind: u16) -> usize
+    ensures { λ r. ⌜ r ≤ 112 ⌝ }
+{
+    match kind {
+        TICKS => 45,
+        STATE => 112,
+        DAMAGE => 4,
+        REPAIR => 1,
+        POWER_UP => 1,
+        POLL => 2,
+        DECIDE => 12,
+        WRITE => 2,
+        _ => 0,
+    }
+}
+
+// How many bytes the first operation has; 0 where it is cut or there is none.
+fn op_size(ops: &[u8]) -> usize
+    ensures { λ r. ⌜ r ≤ length (now (ops .entry)) ⌝ }
+{
+    let size = op_numbers(numbers::word(ops, 0)) * 2;
+    if ops.len() < size {
+        return 0;
+    }
+    size
+}
+
+fn run_ops(mut run: Run, ops: &[u8]) {
+    let mut at: usize = 0;
+    while at < ops.len() {
+        let op = &ops[at..];
+        let size = op_size(op);
+        if size == 0 {
+            return;
+        }
+        run = run_op(run, op);
+        at += size;
+    }
+}
+
+pub fn answer_case(file: &[u8], ops: &[u8]) {
+    let read = site_reader::read(file);
+    if read.refusal != 0 {
+        test_output::print_refusal(read.refusal, read.place);
+        return;
+    }
+    let site = read.site;
+    let run = Run {
+        given: site,
+        site,
+        state: state::zero(),
+    };
+    run_ops(run, ops);
+}

@@ -1,0 +1,52 @@
+-- It happens in time: where something is kept by every call, refused ones change nothing, and a rank falls at each accepted call at which it
+-- does not happen, it happens within more accepted calls than the rank.
+use Prim.Native.Nat.{ℕ, zero, suc, _+_, _≤_, _<_}
+use mathlib.Core.Path.{_≡_, refl}
+use mathlib.Core.Bool.{Bool, true, false, _||_}
+use mathlib.Core.List.{List, [], _∷_, _++_}
+use native.Mathlib.Omega.{arith}
+use Rattle.loops.proofs.Cases.{by-test}
+use Rattle.runs.specs.Runs.{after, AtEach, acceptedIn, happensWithin}
+
+or-else : (a : Bool) {b : Bool} → b ≡ true → (a || b) ≡ true
+or-else true h = refl
+or-else false h = h
+
+one-less : {k y : ℕ} → suc k ≤ 1 + y → k ≤ y
+one-less h = omega arith
+
+no-less : {k y : ℕ} → suc k ≤ 0 + y → suc k ≤ y
+no-less h = omega arith
+
+module _ {Course Call : Type 0} (onward : Course → Call → Course) (accepted : Course → Call → Bool) where
+  -- Something at each accepted call of two lists, one behind the other.
+  pub split-run : (P : Course → Call → Type 0) (c : Course) (before run : List Call) → AtEach onward accepted P c (before ++ run)
+      → AtEach onward accepted P c before × AtEach onward accepted P (after onward c before) run
+  split-run P c [] run a = (tt, a)
+  split-run P c (call ∷ before) run a =
+      let p = split-run P (onward c call) before run (a .1) in
+      ((a .0, p .0), p .1)
+
+  module _ (Going : Course → Type 0) (Given : Course → Call → Type 0)
+      (keeps : (c : Course) (call : Call) → Going c → (accepted c call ≡ true → Given c call) → Going (onward c call)) where
+    -- What every call keeps holds after a list of them.
+    pub reached : (c : Course) (calls : List Call) → Going c → AtEach onward accepted Given c calls → Going (after onward c calls)
+    reached c [] going given = going
+    reached c (call ∷ calls) going given = reached (onward c call) calls (keeps c call going (given .0)) (given .1)
+
+    module _ (Waits : Course → Call → Type 0) (happens : Course → Call → Bool) (rank : Course → ℕ)
+        (stays : (c : Course) (call : Call) → accepted c call ≡ false → onward c call ≡ c)
+        (falls : (c : Course) (call : Call) → Going c → accepted c call ≡ true → Given c call → Waits c call → happens c call ≡ false → rank (onward c call) < rank c) where
+      pub within : (k : ℕ) (c : Course) (calls : List Call) → Going c → AtEach onward accepted Given c calls → AtEach onward accepted Waits c calls
+          → rank c < k → k ≤ acceptedIn onward accepted c calls → happensWithin onward accepted happens k c calls ≡ true
+      within k c [] going given waiting r l = absurd (omega arith)
+      within zero c (call ∷ calls) going given waiting r l = absurd (omega arith)
+      within (suc k) c (call ∷ calls) going given waiting r l =
+          let on = keeps c call going (given .0) in
+          by-test (accepted c call)
+          (λ e. by-test (happens c call)
+          (λ hit. rw (e, hit))
+          (λ miss. rw e (or-else (happens c call)
+          (within k (onward c call) calls on (given .1) (waiting .1) (omega (arith, falls c call going e (given .0 e) (waiting .0 e) miss))
+          (one-less (rw e at l))))))
+          (λ e. rw e (within (suc k) (onward c call) calls on (given .1) (waiting .1) (rw (stays c call e) r) (no-less (rw e at l))))

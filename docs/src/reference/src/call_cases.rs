@@ -1,0 +1,14 @@
+//! The stored cases of `crates/call_cases`.
+
+use crate::cases;
+use crate::random::Random;
+use crate::refusal_cases;
+use crate::tick_cases;
+
+const SEED: u64 = 2;
+const DECISIONS: usize = 3500;
+
+pub fn cases() -> Vec<Vec<u8>> {
+    let mut r = Random::new(SEED);
+    [tick_cases::cases(&mut r), refusal_cases::cases(), cases::cases(&mut r, DECISIONS)].concat()
+}

@@ -1,0 +1,308 @@
+//! The cases of `crates/call_cases`: the words of an operation, and what a case should print.
+//!
+//! A case is the length of a site file, the file, and operations one behind the other, in two-byte numbers:
+//! 1 ticks: how many, and the first one's row of 4 metered and 6 mainline lanes;
+//! 2 a state in place of the present one;
+//! 3 a number of the site record set to any value: its section from 0, its place from 1 or 0 for the count, the value;
+//! 4 the site record of the file again; 5 power-up;
+//! 6 poll into a buffer of so many bytes;
+//! 7 decide: a row of no lanes; 8 write into a buffer of so many bytes.
+//! An unknown or a cut operation ends the case.
+
+use crate::calendar::Clock;
+use crate::output::Outcome;
+use crate::periods::Counts;
+use crate::record::Record;
+use crate::row;
+use crate::site::{self, Site};
+use crate::tally::Tally;
+use crate::text;
+use crate::tick::{self, state_spoilt, Answer, Input, KeptLane, State, NOTHING_DECIDED};
+use crate::wanted::{cycle, Command, Wish};
+use std::fmt::Write;
+
+/// The longest buffer; one that is asked to be longer has this length.
+const ROOM: usize = 4096;
+
+#[derive(Clone, Debug)]
+pub enum Op {
+    /// So many ticks with one input, whose tenth rises by one with each.
+    Ticks(u16, Input),
+    State(State),
+    Damage(u16, u16, u16),
+    Repair,
+    PowerUp,
+    Poll(u16),
+    Decide(Clock, [Command; 2]),
+    Write(u16),
+}
+
+/// Timing i, from 0, set to any value.
+pub fn timing(i: usize, value: u16) -> Op {
+    Op::Damage(0, i as u16 + 1, value)
+}
+
+// Words.
+
+fn op_words(op: &Op) -> Vec<u16> {
+    match op {
+        Op::Ticks(count, input) => [vec![1, *count], row::numbers(input, 4, 6)].concat(),
+        Op::State(state) => [vec![2], state.words()].concat(),
+        Op::Damage(section, place, value) => vec![3, *section, *place, *value],
+        Op::Repair => vec![4],
+        Op::PowerUp => vec![5],
+        Op::Poll(size) => vec![6, *size],
+        Op::Decide(clock, commands) => {
+            let input = Input { commands: *commands, ..Input::at(*clock) };
+            [vec![7], row::numbers(&input, 0, 0)].concat()
+        }
+        Op::Write(size) => vec![8, *size],
+    }
+}
+
+/// A case in bytes.
+pub fn payload(file: &[u8], ops: &[Op]) -> Vec<u8> {
+    let words: Vec<u16> = ops.iter().flat_map(op_words).collect();
+    let mut out = (file.len() as u16).to_be_bytes().to_vec();
+    out.extend(file);
+    out.extend(words.iter().flat_map(|w| w.to_be_bytes()));
+    out
+}
+
+/// The same, from power-up.
+pub fn from_power_up(file: &[u8], ops: &[Op]) -> Vec<u8> {
+    payload(file, &[&[Op::PowerUp], ops].concat())
+}
+
+/// The words still to come; `None` at the end.
+struct Words(std::vec::IntoIter<u16>);
+
+impl Words {
+    /// A last odd byte is no word.
+    fn of(bytes: &[u8]) -> Words {
+        let words: Vec<u16> = bytes.chunks_exact(2).map(|b| u16::from_be_bytes([b[0], b[1]])).collect();
+        Words(words.into_iter())
+    }
+
+    fn one(&mut self) -> Option<u16> {
+        self.0.next()
+    }
+
+    fn long(&mut self) -> Option<u32> {
+        Some((self.one()? as u32) << 16 | self.one()? as u32)
+    }
+
+    fn row<const N: usize>(&mut self) -> Option<[u16; N]> {
+        let mut out = [0; N];
+        for word in &mut out {
+            *word = self.one()?;
+        }
+        Some(out)
+    }
+
+    fn input(&mut self, n: usize, m: usize) -> Option<Input> {
+        let words: Option<Vec<u16>> = (0..row::size(n, m)).map(|_| self.one()).collect();
+        Some(row::input(&words?, n, m))
+    }
+
+    fn counts(&mut self) -> Option<Counts> {
+        let mut c = Counts {
+            passages: self.row()?,
+            greens: self.row()?,
+            worked: self.row()?,
+            vehicles: self.row()?,
+            occupied: self.row()?,
+            timed: self.row()?,
+            speeds: [0; 6],
+        };
+        for sum in &mut c.speeds {
+            *sum = self.long()?;
+        }
+        Some(c)
+    }
+
+    fn state(&mut self) -> Option<State> {
+        let mut state = State { interval: self.one()?, age: self.one()?, ..State::default() };
+        let [colours, ages, counters, passages]: [[u16; 4]; 4] = [self.row()?, self.row()?, self.row()?, self.row()?];
+        state.lanes = std::array::from_fn(|i| KeptLane {
+            colour: colours[i],
+            age: ages[i],
+            counter: counters[i],
+            passages: passages[i],
+        });
+        state.offset = self.one()?;
+        state.last = self.one()?;
+        state.periods.ticks = self.one()?;
+        state.periods.current = self.counts()?;
+        state.periods.serial = self.long()?;
+        state.periods.last = self.counts()?;
+        Some(state)
+    }
+
+    fn op(&mut self) -> Option<Op> {
+        match self.one()? {
+            1 => Some(Op::Ticks(self.one()?, self.input(4, 6)?)),
+            2 => Some(Op::State(self.state()?)),
+            3 => Some(Op::Damage(self.one()?, self.one()?, self.one()?)),
+            4 => Some(Op::Repair),
+            5 => Some(Op::PowerUp),
+            6 => Some(Op::Poll(self.one()?)),
+            7 => self.input(0, 0).map(|input| Op::Decide(input.clock, input.commands)),
+            8 => Some(Op::Write(self.one()?)),
+            _ => None,
+        }
+    }
+}
+
+// Lines.
+
+fn tick_line(a: &Answer) -> String {
+    let (lamps, decision) = (text::lamps(&a.indications, 4), text::decision(&a.decision));
+    format!("{} {} {lamps} {decision} {} {}", a.refusal, a.state.interval, a.cycle, a.released)
+}
+
+fn state_line(state: &State) -> String {
+    let numbers: Vec<String> = state.numbers().iter().map(u32::to_string).collect();
+    format!("state {}\n", numbers.join(" "))
+}
+
+// Runs.
+
+/// How a spoilt record is counted, by the section that was damaged.
+const SPOILT_IN: [&str; 4] =
+    ["sites spoilt in the timings", "sites spoilt in the entries", "sites spoilt in the holidays", "sites spoilt in the levels"];
+
+struct Run<'a> {
+    /// The site that the file gave; the present record; and its site, none where no file could give it.
+    given: Site,
+    record: Record,
+    site: Option<Site>,
+    state: State,
+    out: String,
+    tally: &'a mut Tally,
+}
+
+impl Run<'_> {
+    fn print_state(&mut self) {
+        self.out += &state_line(&self.state);
+    }
+
+    fn power_up(&mut self) {
+        let (refusal, state) = tick::power_up(self.site.as_ref());
+        self.tally.refused(refusal);
+        self.state = state;
+        writeln!(self.out, "power {refusal}").unwrap();
+        self.print_state();
+    }
+
+    fn ticks(&mut self, count: u16, mut input: Input) {
+        self.tally.count("ticks", count as u64);
+        let mut before = String::new();
+        for number in 1..=count {
+            let answer = tick::tick(self.site.as_ref(), &self.state, &input);
+            if number == 1 {
+                self.tally.refused(answer.refusal);
+            }
+            self.tally.count("ticks accepted", (answer.refusal == 0) as u64);
+            self.tally.count("lanes released", (answer.released != 0) as u64);
+            self.state = answer.state;
+            let line = tick_line(&answer);
+            if line != before || answer.released != 0 {
+                writeln!(self.out, "{number} {line}").unwrap();
+            }
+            before = line;
+            input.clock.tenth = input.clock.tenth.wrapping_add(1);
+        }
+        self.print_state();
+    }
+
+    fn replace_state(&mut self, state: State) {
+        let spoilt = state_spoilt(&self.given, &state);
+        self.tally.count(if spoilt { "states spoilt" } else { "states in range" }, 1);
+        self.state = state;
+    }
+
+    fn damage(&mut self, section: u16, place: u16, value: u16) {
+        self.record.set(section, place, value);
+        self.site = self.record.site();
+        if self.site.is_none() {
+            self.tally.count("sites spoilt", 1);
+            self.tally.count(SPOILT_IN[section as usize], 1);
+            let beyond = place != 0 && self.record.beyond(section, place);
+            self.tally.count("sites spoilt beyond a count", beyond as u64);
+        }
+    }
+
+    fn poll(&mut self, size: u16) {
+        let outcome = Outcome::of(ROOM.min(size as usize), |out| tick::poll(self.site.as_ref(), &self.state, out));
+        let Outcome { refusal, count, ref buffer } = outcome;
+        self.tally.count("polls", 1);
+        self.tally.count("polls refused", (refusal != 0) as u64);
+        self.tally.refused(refusal);
+        writeln!(self.out, "poll {refusal} {count} {}", text::hex(buffer)).unwrap();
+    }
+
+    fn decide(&mut self, clock: Clock, commands: [Command; 2]) {
+        let (refusal, decision) = match tick::decision(self.site.as_ref(), &self.state, clock, commands) {
+            Ok(decision) => (0, decision),
+            Err(refusal) => (refusal, NOTHING_DECIDED),
+        };
+        let cycle = match (&self.site, decision.wish) {
+            (Some(site), Wish::Metering(rate)) => cycle(site, rate),
+            _ => 0,
+        };
+        self.tally.count("decisions", 1);
+        self.tally.refused(refusal);
+        writeln!(self.out, "decide {refusal} {} {cycle}", text::decision(&decision)).unwrap();
+    }
+
+    fn write(&mut self, size: u16) {
+        let outcome = Outcome::of(ROOM.min(size as usize), |out| tick::write(self.site.as_ref(), out));
+        self.tally.count("writes", 1);
+        self.tally.refused(outcome.refusal);
+        writeln!(self.out, "write {}", outcome.words()).unwrap();
+    }
+
+    fn op(&mut self, op: Op) {
+        match op {
+            Op::Ticks(count, input) => self.ticks(count, input),
+            Op::State(state) => self.replace_state(state),
+            Op::Damage(section, place, value) => self.damage(section, place, value),
+            Op::Repair => {
+                self.record = Record::of(&self.given);
+                self.site = Some(self.given.clone());
+            }
+            Op::PowerUp => self.power_up(),
+            Op::Poll(size) => self.poll(size),
+            Op::Decide(clock, commands) => self.decide(clock, commands),
+            Op::Write(size) => self.write(size),
+        }
+    }
+}
+
+/// What a case prints.
+pub fn answer(case: &[u8], tally: &mut Tally) -> String {
+    let length = u16::from_be_bytes([case[0], case[1]]) as usize;
+    let (file, operations) = case[2..].split_at(length);
+    let given = match site::read(file) {
+        Ok(site) => site,
+        Err(r) => {
+            tally.refused(r.number);
+            return text::refusal(r);
+        }
+    };
+    tally.count("sites", 1);
+    let mut run = Run {
+        record: Record::of(&given),
+        site: Some(given.clone()),
+        given,
+        state: State::default(),
+        out: String::new(),
+        tally,
+    };
+    let mut words = Words::of(operations);
+    while let Some(op) = words.op() {
+        run.op(op);
+    }
+    run.out
+}

@@ -1,0 +1,40 @@
+//! What both the replay program and the test programs print.
+
+use crate::group::Indications;
+use crate::site::Refused;
+use crate::timetable::DAYS;
+use crate::wanted::{Decision, Wish};
+
+const LETTERS: [char; 4] = ['D', 'R', 'Y', 'G'];
+
+/// The line of a refused site file.
+pub fn refusal(r: Refused) -> String {
+    format!("refused {} at {}\n", r.number, r.place)
+}
+
+/// The first n lanes' colours and lower greens, and the sign.
+pub fn lamps(x: &Indications, n: usize) -> String {
+    let colours: String = x.colours[..n].iter().map(|c| LETTERS[*c as usize]).collect();
+    let lower: String = x.lower[..n].iter().map(|lit| if *lit { '1' } else { '0' }).collect();
+    format!("{colours} {lower} {}", x.sign as u8)
+}
+
+/// The wish and its rate, 0 for none.
+fn wish(wish: Wish) -> (&'static str, u16) {
+    match wish {
+        Wish::Dark => ("dark", 0),
+        Wish::Green => ("green", 0),
+        Wish::Metering(rate) => ("meter", rate),
+        Wish::Clear => ("clear", 0),
+    }
+}
+
+/// Day, entry, source, level, wish and rate.
+pub fn decision(d: &Decision) -> String {
+    let (wish, rate) = wish(d.wish);
+    format!("{} {} {} {} {wish} {rate}", DAYS[d.day], d.entry, d.source, d.level)
+}
+
+pub fn hex(bytes: &[u8]) -> String {
+    bytes.iter().map(|b| format!("{b:02x}")).collect()
+}
