@@ -12,8 +12,8 @@ use site::Site;
 pub use wish::Source;
 pub use wish::Wish;
 
-// The day type, 0 Sunday to 6 Saturday, 7 Holiday and 8 for no day; the places from 1 in the file of the entry in
-// force and of the level that decided, 0 for none; who rules, and the wish.
+// The day type, 0 Sunday to 6 Saturday, 7 Holiday and 8 for no day; the places from 1 in the file of
+// the entry in force and of the level that decided, 0 for none; who rules, and the wish.
 pub struct Decision {
     pub day: u16,
     pub entry: u16,
