@@ -25,8 +25,8 @@ totalsOf c m = record {
   speeds = overGood c (λ (l : LaneCounts). l .speeds) m;
 }
 
--- "Rounded down: flow = vehicles × 120 ÷ lanes; occupancy = occupied ms ÷ (30 × lanes); mean speed = sum of speeds ÷ vehicles that had one."
--- Without such a vehicle the mean speed is not known, and 0.
+-- "Rounded down: flow = vehicles × 120 ÷ lanes; occupancy = occupied ms ÷ (30 × lanes); mean speed = sum of speeds ÷ vehicles that had
+-- one." Without such a vehicle the mean speed is not known, and 0.
 unfoldable pub measuresOf : Totals → Measures
 measuresOf t = record {
   flow = t .vehicles * 120 / t .lanes;
