@@ -1,6 +1,6 @@
 -- The runs marked * of document 01: all by computation.
 use mathlib.Core.Path.{refl}
-use Rattle.worked_runs.specs.Run.{stateAfter, answerAt, releasesFrom, releases}
+use Rattle.worked_runs.specs.Run.{stateAfter, answerAt, releasesFrom, releases, isWaiting}
 use Rattle.tick.specs.Checks.{inputRefusal, tickRefusal}
 use Rattle.site.specs.Named.{timingsOf}
 use Rattle.tick.specs.Tick.{powerUpOf, countedIn, decidedIn, cycleIn, movedIn, acceptedTick, refusedTick, tickOf}
@@ -38,7 +38,7 @@ use Rattle.levels.specs.Levels.{reachesOf, isSlow, isMet}
 use Rattle.worked_runs.specs.Starred.{Starred}
 
 pub starred : Starred
-unfolding waitingBound turnTicks atPowerUp answerTo isAccepted onward greenBegins allDark cycleTicks roundedUp dayTypeOf isDate daysBefore monthLength dayNumber weekdayOf inMonth todayOf monthBefore yesterdayOf isFloating inWeek isFixed isNamed measuresOf totalsOf goodOf isMet reachesOf isSlow wordsOf readOf sectionOf isGood rangeOf timingRange isWithin stateAfter answerAt releasesFrom releases inputRefusal tickRefusal timingsOf powerUpOf countedIn decidedIn cycleIn movedIn acceptedTick refusedTick tickOf stateSpoilt freshState allRed intervalOf lanesIn releasedIn groupOf lanesMoved movedWith movedOf colourShown lowerShown signShown laneShown indicationsOf ageOf timeOf successorOf nextInterval colourSpoilt laneSpoilt laneKept laneSpoiltAt lanesSpoilt groupSpoilt riseOf passagesOf greenEnds greenAt yellowAt laneTick laneOf lanesOf laneTickAt lanesTick laneEntered lanesEntered offsetTicks isReady readyAt anyGreen mayRelease nextOf releasedOf greenIf releaseOf speedOf timedOf laneCounted laneCountedAt passagesAt countedOf nextSerial closedOf afterTick greensAt greenCounted afterRelease noPeriods countsLaneSpoilt countsLaneKept countsLaneSpoiltAt meteredSpoilt meteredKept meteredSpoiltAt countsSpoilt lastTicks periodsSpoilt dayOf entryInForce commandInForce decisionOf plannedOf sourceOf choiceOf meteredBad laneBad samplesBad carriesNothing commandBad commandsBad clockBad spoiltOf spoiltSite rateRange tableRange
+unfolding isWaiting waitingBound turnTicks atPowerUp answerTo isAccepted onward greenBegins allDark cycleTicks roundedUp dayTypeOf isDate daysBefore monthLength dayNumber weekdayOf inMonth todayOf monthBefore yesterdayOf isFloating inWeek isFixed isNamed measuresOf totalsOf goodOf isMet reachesOf isSlow wordsOf readOf sectionOf isGood rangeOf timingRange isWithin stateAfter answerAt releasesFrom releases inputRefusal tickRefusal timingsOf powerUpOf countedIn decidedIn cycleIn movedIn acceptedTick refusedTick tickOf stateSpoilt freshState allRed intervalOf lanesIn releasedIn groupOf lanesMoved movedWith movedOf colourShown lowerShown signShown laneShown indicationsOf ageOf timeOf successorOf nextInterval colourSpoilt laneSpoilt laneKept laneSpoiltAt lanesSpoilt groupSpoilt riseOf passagesOf greenEnds greenAt yellowAt laneTick laneOf lanesOf laneTickAt lanesTick laneEntered lanesEntered offsetTicks isReady readyAt anyGreen mayRelease nextOf releasedOf greenIf releaseOf speedOf timedOf laneCounted laneCountedAt passagesAt countedOf nextSerial closedOf afterTick greensAt greenCounted afterRelease noPeriods countsLaneSpoilt countsLaneKept countsLaneSpoiltAt meteredSpoilt meteredKept meteredSpoiltAt countsSpoilt lastTicks periodsSpoilt dayOf entryInForce commandInForce decisionOf plannedOf sourceOf choiceOf meteredBad laneBad samplesBad carriesNothing commandBad commandsBad clockBad spoiltOf spoiltSite rateRange tableRange
 starred = record {
   cycle-600 = refl;
   cycle-700 = refl;
@@ -69,12 +69,15 @@ starred = record {
   before-metering = refl;
   begins-at-41 = refl;
   not-at-40 = refl;
+  one-waiting = refl;
   bound-of-one-lane = refl;
   in-time = refl;
   no-tick-to-spare = refl;
+  two-waiting = refl;
   bound-of-two-lanes = refl;
   two-in-time = refl;
   two-no-tick-to-spare = refl;
+  two-waiting-with-offset = refl;
   bound-of-two-with-offset = refl;
   two-with-offset-in-time = refl;
   two-with-offset-no-tick-to-spare = refl;

@@ -1,15 +1,15 @@
 -- A run: ticks from power-up at a site, all with one input.
 use Prim.Native.Nat.{ℕ, zero, suc, _+_, _-_}
-use mathlib.Core.Bool.{cond}
+use mathlib.Core.Bool.{Bool, true, cond, _&&_}
 use mathlib.Core.List.{List, [], _∷_}
-use lib.Dec.{eqb}
-use lib.ListN.{replicate}
+use lib.Dec.{eqb, leb}
+use lib.ListN.{getD, replicate}
 use Rattle.site.specs.declared.Site.{Site}
 use Rattle.state.specs.declared.State.{State}
 use Rattle.tick.specs.declared.Input.{Input}
 use Rattle.tick.specs.declared.Ticked.{Ticked}
 use Rattle.tick.specs.Tick.{powerUpOf, tickOf}
-use Rattle.tick.specs.Waiting.{Call}
+use Rattle.tick.specs.Waiting.{Call, Course, answerTo, isAccepted, onward}
 
 -- Metering at a rate wanted always, these demands on, no passage: wanted by the technician, at midnight of 1 January 2024.
 abbrev pub meteringAt : ℕ → List ℕ → Input
@@ -45,6 +45,16 @@ releasesFrom x i number (suc k) s =
 -- The same of the first k ticks since power-up.
 unfoldable pub releases : Site → Input → ℕ → List (ℕ × ℕ)
 releases x i k = releasesFrom x i 1 k (powerUpOf x .state)
+
+-- Whether lane i, from 1, waits at each tick of a list, and each is accepted: the words of `Waits`, as a test.
+unfoldable pub isWaiting : ℕ → ℕ → Course → Call → Bool
+isWaiting i most c call =
+    eqb (getD (call .input .lanes .demand) (i - 1) 0) 1
+    && (eqb (answerTo c call .state .group .interval) 7 && leb (answerTo c call .cycle) most)
+
+abbrev pub waitsThroughout : ℕ → ℕ → Course → List Call → Bool
+waitsThroughout i most c [] = true
+waitsThroughout i most c (call ∷ calls) = (isAccepted c call && isWaiting i most c call) && waitsThroughout i most (onward c call) calls
 
 -- k ticks as they are handed in.
 abbrev pub calls : Site → Input → ℕ → List Call

@@ -18,7 +18,7 @@ use Rattle.site.specs.Named.{timingsOf}
 use Rattle.tick.specs.declared.Input.{Input}
 use Rattle.tick.specs.Waiting.{Call, Course, atPowerUp, courseAfter, acceptedTicks, beginsWithin}
 use Rattle.worked_runs.specs.SiteA.{siteWith, leastSite, siteA, siteAWithOffset}
-use Rattle.worked_runs.specs.Run.{meteringAt, metering600, answerAt, releases, calls}
+use Rattle.worked_runs.specs.Run.{meteringAt, metering600, answerAt, releases, waitsThroughout, calls}
 
 abbrev pub date : ℕ → ℕ → ℕ → Date
 date year month day = record { year = year; month = month; day = day }
@@ -39,15 +39,17 @@ threeLanes a b c = record {
 abbrev pub flowLevel : ℕ → Level
 flowLevel flow = record { table = 1; flow = flow; occupancy = 65535; speed = 65535; rate = 600 }
 
--- Lane 2 alone in demand until its release, at tick 102; and 29 ticks more of that, before lane 1's demand comes too.
-abbrev pub laneTwo : Input
-laneTwo = meteringAt 1800 (0 ∷ 1 ∷ 0 ∷ 0 ∷ [])
+-- Metering at 879, a cycle of 41, with these demands.
+abbrev pub at879 : List ℕ → Input
+at879 demand = meteringAt 879 demand
 
+-- Lane 2 alone in demand until its release, at tick 102.
 abbrev pub releasedLast : ℕ → Course
-releasedLast mode = courseAfter (atPowerUp (leastSite mode)) (calls (leastSite mode) laneTwo 102)
+releasedLast mode = courseAfter (atPowerUp (leastSite mode)) (calls (leastSite mode) (at879 (0 ∷ 1 ∷ 0 ∷ 0 ∷ [])) 102)
 
+-- 40 ticks more of that, and then lane 1's demand too: 62 ticks.
 abbrev pub thenBoth : ℕ → List Call
-thenBoth mode = calls (leastSite mode) laneTwo 29 ++ calls (leastSite mode) (meteringAt 1800 (1 ∷ 1 ∷ 0 ∷ 0 ∷ [])) 11
+thenBoth mode = calls (leastSite mode) (at879 (0 ∷ 1 ∷ 0 ∷ 0 ∷ [])) 40 ++ calls (leastSite mode) (at879 (1 ∷ 1 ∷ 0 ∷ 0 ∷ [])) 22
 
 pub record Starred : Type 0 where
   -- "Rate 600, V 1: cycle 60; 700: 52; 150 with V 3: 720."
@@ -88,14 +90,18 @@ pub record Starred : Type 0 where
   pub begins-at-41 : beginsWithin 2 41 (courseAfter (atPowerUp siteA) (calls siteA metering600 290)) (calls siteA metering600 80) ≡ true
   pub not-at-40 : beginsWithin 2 40 (courseAfter (atPowerUp siteA) (calls siteA metering600 290)) (calls siteA metering600 80) ≡ false
   -- And the number is exact: with one lane, released at 311 and 371, a run from tick 312 on meets the bound with no tick to spare.
+  pub one-waiting : waitsThroughout 1 60 (courseAfter (atPowerUp (siteWith 1 0)) (calls (siteWith 1 0) metering600 311)) (calls (siteWith 1 0) metering600 60) ≡ true
   pub bound-of-one-lane : waitingBound (timingsOf (siteWith 1 0)) 60 ≡ 60
   pub in-time : beginsWithin 1 60 (courseAfter (atPowerUp (siteWith 1 0)) (calls (siteWith 1 0) metering600 311)) (calls (siteWith 1 0) metering600 60) ≡ true
   pub no-tick-to-spare : beginsWithin 1 59 (courseAfter (atPowerUp (siteWith 1 0)) (calls (siteWith 1 0) metering600 311)) (calls (siteWith 1 0) metering600 60) ≡ false
-  -- So is the turn of the other lane, in both service modes: lane 2, released at tick 102 and in demand ever since, is ready at 132; there
-  -- lane 1's demand comes, whose turn is first, and lane 2 is released at 142, the run's 40th tick and the bound's last.
-  pub bound-of-two-lanes : waitingBound (timingsOf (leastSite 0)) 20 ≡ 40
-  pub two-in-time : beginsWithin 2 40 (releasedLast 0) (thenBoth 0) ≡ true
-  pub two-no-tick-to-spare : beginsWithin 2 39 (releasedLast 0) (thenBoth 0) ≡ false
-  pub bound-of-two-with-offset : waitingBound (timingsOf (leastSite 1)) 20 ≡ 40
-  pub two-with-offset-in-time : beginsWithin 2 40 (releasedLast 1) (thenBoth 1) ≡ true
-  pub two-with-offset-no-tick-to-spare : beginsWithin 2 39 (releasedLast 1) (thenBoth 1) ≡ false
+  -- So is the turn of the other lane, in both service modes: with a cycle of 41, lane 2, released at tick 102 and waiting ever since, is ready
+  -- at 143; there lane 1's demand comes, whose turn is first. Lane 2 is released at 153, when lane 1's green has ended, or at 164, half a
+  -- cycle rounded up after it: the run's 51st tick, or its 62nd, and the bound's last.
+  pub two-waiting : waitsThroughout 2 41 (releasedLast 0) (thenBoth 0) ≡ true
+  pub bound-of-two-lanes : waitingBound (timingsOf (leastSite 0)) 41 ≡ 51
+  pub two-in-time : beginsWithin 2 51 (releasedLast 0) (thenBoth 0) ≡ true
+  pub two-no-tick-to-spare : beginsWithin 2 50 (releasedLast 0) (thenBoth 0) ≡ false
+  pub two-waiting-with-offset : waitsThroughout 2 41 (releasedLast 1) (thenBoth 1) ≡ true
+  pub bound-of-two-with-offset : waitingBound (timingsOf (leastSite 1)) 41 ≡ 62
+  pub two-with-offset-in-time : beginsWithin 2 62 (releasedLast 1) (thenBoth 1) ≡ true
+  pub two-with-offset-no-tick-to-spare : beginsWithin 2 61 (releasedLast 1) (thenBoth 1) ≡ false
