@@ -17,7 +17,7 @@ colourSpoilt interval colour = cond (eqb interval 7 || eqb interval 8) (ltb colo
 unfoldable pub laneSpoilt : ℕ → Lane → Bool
 laneSpoilt interval l = ltb 720 (l .age) || (ltb 720 (l .counter) || (ltb 3 (l .passages) || colourSpoilt interval (l .colour)))
 
--- "Anything kept beyond n is not 0."
+-- "Anything kept beyond n or m is not 0", of a lane.
 unfoldable pub laneKept : Lane → Bool
 laneKept l = ltb 0 (l .colour) || (ltb 0 (l .age) || (ltb 0 (l .counter) || ltb 0 (l .passages)))
 

@@ -40,6 +40,11 @@ pub struct Command {
     pub table: u16,
 }
 
+// The most milliseconds that a lane is occupied in a tick, and the highest speed in km/h.
+pub const MOST_OCCUPIED: u16 = 100;
+
+pub const MOST_SPEED: u16 = 250;
+
 // The kinds of commands.
 pub const NONE: u16 = 0;
 
@@ -116,13 +121,13 @@ fn lane_bad(s: LaneSample) -> bool
     if 1 < s.working {
         return true;
     }
-    if 100 < s.occupied {
+    if MOST_OCCUPIED < s.occupied {
         return true;
     }
     if 1 < s.vehicles {
         return true;
     }
-    250 < s.speed
+    MOST_SPEED < s.speed
 }
 
 // Whether a sample of one of the first n metered lanes is out of range.

@@ -49,6 +49,7 @@ good-lane c t g = rw (le-ltb _ _ (g .worked), le-ltb _ _ (g .vehicles), le-ltb _
 
 -- A mainline lane's samples in range, and what its speed is then.
 pub record SampleGood (s : LaneSample) : Type 0 where
+  pub working : s .working ≤ 1
   pub occupied : s .occupied ≤ 100
   pub vehicles : s .vehicles ≤ 1
   pub speed : s .speed ≤ 250
@@ -59,7 +60,7 @@ sample-good s e =
     let a = neither (ltb 1 (s .working)) _ e in
     let b = neither (ltb 100 (s .occupied)) _ (a .1) in
     let d = neither (ltb 1 (s .vehicles)) _ (b .1) in
-    record { occupied = ltb-false 100 (s .occupied) (b .0); vehicles = ltb-false 1 (s .vehicles) (d .0); speed = ltb-false 250 (s .speed) (d .1) }
+    record { working = ltb-false 1 (s .working) (a .0); occupied = ltb-false 100 (s .occupied) (b .0); vehicles = ltb-false 1 (s .vehicles) (d .0); speed = ltb-false 250 (s .speed) (d .1) }
 
 record SpeedGood (s : LaneSample) : Type 0 where
   few : timedOf (speedOf s) ≤ s .vehicles
@@ -76,7 +77,7 @@ speed-good s h = speed-case s _ _ refl refl h
 
 -- A lane in range at fewer than 300 ticks has room for one tick more: no number of the machine is too small,
 pub record LaneRoom (c : LaneCounts) (s : LaneSample) : Type 0 where
-  pub worked : c .worked < 300
+  pub worked : c .worked + s .working ≤ 300
   pub vehicles : c .vehicles + s .vehicles ≤ 300
   pub occupied : c .occupied + s .occupied ≤ 30000
   pub timed : c .timed + timedOf (speedOf s) ≤ 300
@@ -88,7 +89,7 @@ lane-room c s e f =
     let h = sample-good s f in
     let k = speed-good s h in
     record {
-      worked = omega (arith, g .worked);
+      worked = omega (arith, g .worked, h .working);
       vehicles = omega (arith, g .vehicles, h .vehicles);
       occupied = omega (arith, g .occupied, h .occupied);
       timed = omega (arith, g .timed, g .vehicles, h .vehicles, k .few);
@@ -112,7 +113,7 @@ counted-case c s t true e g h =
     let k = speed-good s h in
     rw e
     (record {
-      worked = omega (arith, g .worked);
+      worked = omega (arith, g .worked, h .working);
       vehicles = omega (arith, g .vehicles, h .vehicles);
       occupied = omega (arith, g .occupied, h .occupied);
       timed = omega (arith, g .timed, k .few);

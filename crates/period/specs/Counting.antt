@@ -26,7 +26,7 @@ unfoldable pub laneCounted : LaneCounts → LaneSample → LaneCounts
 laneCounted c s =
     cond (eqb (s .working) 1)
     (record {
-      worked = c .worked + 1;
+      worked = c .worked + s .working;
       vehicles = c .vehicles + s .vehicles;
       occupied = c .occupied + s .occupied;
       timed = c .timed + timedOf (speedOf s);

@@ -17,7 +17,7 @@ laneSpoilt c ticks =
     ltb ticks (c .worked)
     || (ltb ticks (c .vehicles) || (ltb (100 * ticks) (c .occupied) || (ltb (c .vehicles) (c .timed) || ltb (250 * c .timed) (c .speeds))))
 
--- "Anything kept beyond m is not 0."
+-- "Anything kept beyond n or m is not 0", of a mainline lane.
 unfoldable pub laneKept : LaneCounts → Bool
 laneKept c = ltb 0 (c .worked) || (ltb 0 (c .vehicles) || (ltb 0 (c .occupied) || (ltb 0 (c .timed) || ltb 0 (c .speeds))))
 
@@ -28,7 +28,7 @@ laneSpoiltAt c m ticks j = cond (ltb j m) (laneSpoilt (laneOf c j) ticks) (laneK
 unfoldable pub meteredSpoilt : ℕ → ℕ → ℕ → Bool
 meteredSpoilt passages greens ticks = ltb ticks passages || ltb ticks greens
 
--- "Anything kept beyond n is not 0."
+-- "Anything kept beyond n or m is not 0", of a metered lane.
 unfoldable pub meteredKept : ℕ → ℕ → Bool
 meteredKept passages greens = ltb 0 passages || ltb 0 greens
 

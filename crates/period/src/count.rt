@@ -44,7 +44,7 @@ fn lane_counted(c: LaneCounts, s: LaneSample) -> LaneCounts
     }
     let speed = speed_of(s);
     LaneCounts {
-        worked: c.worked + 1,
+        worked: c.worked + s.working,
         vehicles: c.vehicles + s.vehicles,
         occupied: c.occupied + s.occupied,
         timed: c.timed + timed_of(speed),

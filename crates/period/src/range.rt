@@ -9,10 +9,9 @@ use crate::MOST_OPEN_TICKS;
 use crate::Periods;
 use crate::TICKS_OF_A_PERIOD;
 
-// The most milliseconds that a lane is occupied in a tick, and the highest speed in km/h.
-const MOST_OCCUPIED: u32 = 100;
+const MOST_OCCUPIED: u32 = inputs::MOST_OCCUPIED as u32;
 
-const MOST_SPEED: u32 = 250;
+const MOST_SPEED: u32 = inputs::MOST_SPEED as u32;
 
 fn lane_spoilt(c: LaneCounts, ticks: u16) -> bool
     ensures { λ r. ⌜ r ≡ laneSpoilt c ticks ⌝ }

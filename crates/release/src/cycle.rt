@@ -3,6 +3,8 @@ ghost use mathlib.Core.Path.{_≡_};
 ghost use Prim.Native.Nat.{_+_, _≤_};
 ghost use Rattle.release.specs.Cycle.{roundedUp, cycleTicks, offsetTicks};
 
+const TICKS_OF_AN_HOUR: u32 = 36000;
+
 // a ÷ b, rounded up; by 0, 0.
 fn rounded_up(a: u32, b: u16) -> u32
     requires { ⌜ a + b ≤ 4294967295 ⌝ }
@@ -19,7 +21,7 @@ fn rounded_up(a: u32, b: u16) -> u32
 pub fn cycle_ticks(vehicles: u16, rate: u16) -> u32
     ensures { λ r. ⌜ r ≡ cycleTicks vehicles rate ⌝ }
 {
-    rounded_up(36000 * (vehicles as u32), rate)
+    rounded_up(TICKS_OF_AN_HOUR * (vehicles as u32), rate)
 }
 
 // The ticks between two greens of a group of n lanes under fractional offset.

@@ -33,7 +33,7 @@ pub fn fresh(n: u16) -> State
     let lanes = lanes::entered(n);
     State {
         group: Group {
-            interval: 0,
+            interval: group::INITIALIZATION,
             age: 0,
             lanes,
         },

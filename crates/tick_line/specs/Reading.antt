@@ -1,12 +1,11 @@
--- The tick of a line: "decimal numbers with one blank between", a tick's row with the tenth as one number.
+-- The tick of a line: decimal numbers with one blank between, a tick's row with the tenth as one number.
 use Prim.Native.Nat.{ℕ}
 use mathlib.Core.Bool.{true, false, cond}
-use mathlib.Core.List.{List}
 use lib.Dec.{eqb}
 use Rattle.tick_row.specs.Row.{rowSize, inputOf}
 use Rattle.tick_line.specs.declared.scan.Scan.{Scan}
 use Rattle.tick_line.specs.declared.reading.ReadLine.{ReadLine}
-use Rattle.tick_line.specs.Scan.{lineStart, noTick, ended, scanned}
+use Rattle.tick_line.specs.Scan.{noTick}
 
 -- A line that is no tick gives zeros.
 unfoldable pub noTickRead : ReadLine
@@ -15,7 +14,3 @@ noTickRead = record { good = false; input = inputOf (noTick .row) 0 0 }
 -- The tick of a line's numbers: there are as many as n metered and m mainline lanes ask.
 unfoldable pub tickRead : Scan → ℕ → ℕ → ReadLine
 tickRead s n m = cond (s .good) (cond (eqb (s .count) (rowSize n m)) (record { good = true; input = inputOf (s .row) n m }) noTickRead) noTickRead
-
--- The tick of a line.
-unfoldable pub lineRead : List ℕ → ℕ → ℕ → ReadLine
-lineRead line n m = tickRead (ended (scanned line lineStart)) n m

@@ -1,6 +1,6 @@
 -- A tick as one row of numbers, in the order of document 02's tick record: year, month, day and the two halves of the tenth; demand and
 -- passage of each metered lane; working, occupied, vehicles and speed of each mainline lane; kind, rate and table of the manual and then of
--- the communications command. Replay's line, the test cases and the simulators' records are all read by this.
+-- the communications command. Replay's line and the test cases are read by this.
 use Prim.Native.Nat.{ℕ, _+_, _*_}
 use mathlib.Core.Bool.{cond}
 use mathlib.Core.List.{List, [], _∷_}
@@ -62,6 +62,10 @@ commandsAt n m = mainlineAt n + 4 * m
 
 unfoldable pub rowSize : ℕ → ℕ → ℕ
 rowSize n m = commandsAt n m + 6
+
+-- The longest row, that of four metered and six mainline lanes: law `longest-row`.
+abbrev pub longestRow : ℕ
+longestRow = 43
 
 -- The tick of a row; "manual first".
 unfoldable pub inputOf : List ℕ → ℕ → ℕ → Input

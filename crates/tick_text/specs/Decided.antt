@@ -13,34 +13,34 @@ use Rattle.wanted.specs.declared.Decision.{Decision}
 use Rattle.wanted.specs.Wish.{rateOf}
 use Rattle.tick.specs.declared.Ticked.{Ticked}
 
--- "The source that rules (`manual`, `centre`, or `plan`)."
+-- The source that rules (`manual`, `centre`, or `plan`).
 abbrev pub sourceText : Source → List ℕ
 sourceText Manual = ascii " manual"
 sourceText Centre = ascii " centre"
 sourceText Plan = ascii " plan"
 
--- "The wish (`dark`, `green`, `meter`, `clear`)."
+-- The wish (`dark`, `green`, `meter`, `clear`).
 abbrev pub wishText : Wish → List ℕ
 wishText Dark = ascii " dark"
 wishText Green = ascii " green"
 wishText (Metering rate) = ascii " meter"
 wishText Clear = ascii " clear"
 
--- "The day (Sun to Sat, Hol), the place of the entry in force from 1 or 0, the source that rules."
+-- The day (Sun to Sat, Hol), the place of the entry in force from 1 or 0, the source that rules.
 unfoldable pub rulingText : Decision → List ℕ
 rulingText d = ascii " " ++ (dayName (d .day) ++ (blankAndDecimal (d .entry) ++ sourceText (d .source)))
 
--- "The place of the level that decided from 1 or 0, the wish, its rate or 0."
+-- The place of the level that decided from 1 or 0, the wish, its rate or 0.
 unfoldable pub wishedText : Decision → List ℕ
 wishedText d = blankAndDecimal (d .level) ++ (wishText (d .wish) ++ blankAndDecimal (rateOf (d .wish)))
 
 unfoldable pub decisionText : Decision → List ℕ
 decisionText d = rulingText d ++ wishedText d
 
--- "Of an accepted tick" these, "the cycle or 0, the lane released or 0".
+-- Of an accepted tick these, the cycle or 0, the lane released or 0.
 unfoldable pub acceptedText : Decision → ℕ → ℕ → List ℕ
 acceptedText d cycle released = decisionText d ++ (blankAndDecimal cycle ++ blankAndDecimal released)
 
--- "Of a refused one eight times `-`."
+-- Of a refused one eight times `-`.
 unfoldable pub decidedText : Ticked → List ℕ
 decidedText t = cond (eqb (t .refusal) 0) (acceptedText (t .decision) (t .cycle) (t .released)) (ascii " - - - - - - - -")

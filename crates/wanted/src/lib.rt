@@ -42,12 +42,19 @@ fn day_of(site: Site, clock: Clock) -> u16
     calendar::day_type(date, &dates, site.holidays)
 }
 
+const TENTHS_OF_A_MINUTE: u32 = 600;
+
 fn entry_in_force(site: Site, clock: Clock, day: u16) -> u16
     requires { ⌜ (day ≡ dayOf site clock) × (clock .tenth ≤ 863999) ⌝ }
     ensures { λ r. ⌜ r ≡ entryInForce site clock ⌝ }
 {
     let plan = site.plan;
-    plan::in_force(&plan, site.entries, day, (clock.tenth / 600) as u16)
+    plan::in_force(
+        &plan,
+        site.entries,
+        day,
+        (clock.tenth / TENTHS_OF_A_MINUTE) as u16,
+    )
 }
 
 // What is decided at an accepted clock under accepted commands.
