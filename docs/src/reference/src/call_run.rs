@@ -227,7 +227,10 @@ impl Run<'_> {
         self.site = self.record.site();
         if self.site.is_none() {
             self.tally.count("sites spoilt", 1);
-            self.tally.count(SPOILT_IN[section as usize], 1);
+            // a section that there is not leaves a spoilt record as it was
+            if let Some(spoilt) = SPOILT_IN.get(section as usize) {
+                self.tally.count(spoilt, 1);
+            }
             let beyond = place != 0 && self.record.beyond(section, place);
             self.tally.count("sites spoilt beyond a count", beyond as u64);
         }
