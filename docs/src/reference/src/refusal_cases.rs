@@ -3,6 +3,7 @@
 
 use crate::call_run::{from_power_up, payload, Op};
 use crate::files::{longest, site_a, site_with_rows};
+use crate::output::ROOM;
 use crate::site::{bytes, Site, TIMINGS, UNUSED};
 use crate::tick::State;
 use crate::tick_cases::{counted, fixed, fresh, in_demand, DECIDE, POLL};
@@ -119,7 +120,8 @@ fn write_buffers() -> Vec<Vec<u8>> {
     let case = |site: Site| {
         let file = bytes(&site);
         let size = file.len() as u16;
-        let writes = [0, 1, size - 1, size, size + 1, 4095, 4096, 4097, UNUSED].map(Op::Write);
+        let room = ROOM as u16;
+        let writes = [0, 1, size - 1, size, size + 1, room - 1, room, room + 1, UNUSED].map(Op::Write);
         payload(&file, &[&writes[..], &[Op::Damage(0, 1, 0)], &writes].concat())
     };
     [site_a(), site_with_rows(), longest()].into_iter().map(case).collect()
