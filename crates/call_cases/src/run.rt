@@ -109,7 +109,7 @@ fn poll_now(run: Run, op: &[u8]) -> Run {
     let site = run.site;
     let state = run.state;
     let mut buffer = test_output::buffer();
-    let end = test_output::within(&buffer, numbers::word(op, 1) as usize);
+    let end = test_output::front_length(&buffer, numbers::word(op, 1) as usize);
     poll_into(site, state, &mut buffer[..end]);
     run
 }
@@ -129,7 +129,7 @@ fn decide_now(run: Run, op: &[u8]) -> Run {
 }
 
 fn write_into(site: Site, buffer: &mut [u8], size: usize) {
-    let end = test_output::within(buffer, size);
+    let end = test_output::front_length(buffer, size);
     let written = site_writer::write(site, &mut buffer[..end]);
     print::written(written, test_output::untouched(buffer, written.count));
 }

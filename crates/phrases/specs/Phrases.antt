@@ -9,8 +9,9 @@ use Rattle.text.specs.Decimal.{decimal}
 abbrev pub dayNames : List (List ℕ)
 dayNames = ascii "Sun" ∷ ascii "Mon" ∷ ascii "Tue" ∷ ascii "Wed" ∷ ascii "Thu" ∷ ascii "Fri" ∷ ascii "Sat" ∷ ascii "Hol" ∷ []
 
+-- A day's name, and `-` where the day is none of the eight: nothing is decided.
 unfoldable pub dayName : ℕ → List ℕ
-dayName day = getD dayNames day []
+dayName day = getD dayNames day (ascii "-")
 
 -- A blank, and a number behind it.
 abbrev pub blankAndDecimal : ℕ → List ℕ

@@ -18,7 +18,7 @@ pub fn put_day_name(out: &mut [u8], at: usize, day: u16) -> usize
 {
     let d = day as usize;
     if 8 <= d {
-        return at;
+        return text::put_byte(out, at, b'-');
     }
     let name = DAYS[d];
     text::put_bytes(out, at, &name)

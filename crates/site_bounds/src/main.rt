@@ -6,9 +6,6 @@ use libc::STDOUT_FILENO;
 use output::Written;
 use site::Site;
 
-// The length of the longest buffer.
-const ROOM: usize = 4096;
-
 // What a call answered, and whether it left every byte behind what it wrote as it was.
 struct Outcome {
     written: Written,
@@ -17,7 +14,7 @@ struct Outcome {
 
 // `write` into the front of a buffer, so many bytes.
 fn write_front(site: Site, buffer: &mut [u8], size: usize) -> Outcome {
-    let end = test_output::within(buffer, size);
+    let end = test_output::front_length(buffer, size);
     let written = site_writer::write(site, &mut buffer[..end]);
     Outcome {
         written,
@@ -32,7 +29,7 @@ fn write_to(site: Site, size: usize) -> Outcome {
 
 // `print` into the front of a buffer, so many bytes.
 fn print_front(file: &[u8], buffer: &mut [u8], size: usize) -> Outcome {
-    let end = test_output::within(buffer, size);
+    let end = test_output::front_length(buffer, size);
     let written = listing::print(file, &mut buffer[..end]);
     Outcome {
         written,
@@ -69,14 +66,14 @@ fn print_line(name: &[u8], much: Outcome, just: Outcome, less: Outcome) {
 }
 
 fn print_writes(site: Site) {
-    let much = write_to(site, ROOM);
+    let much = write_to(site, test_output::ROOM);
     let written = much.written;
     let just = write_to(site, written.count);
     print_line(b"write", much, just, write_to(site, short(written)));
 }
 
 fn print_prints(file: &[u8]) {
-    let much = print_to(file, ROOM);
+    let much = print_to(file, test_output::ROOM);
     let written = much.written;
     let just = print_to(file, written.count);
     print_line(b"print", much, just, print_to(file, short(written)));
@@ -85,7 +82,7 @@ fn print_prints(file: &[u8]) {
 fn print_rewritten(site: Site, file: &[u8]) {
     let mut out = test_output::buffer();
     let written = site_writer::write(site, &mut out);
-    let n = test_output::within(&out, written.count);
+    let n = test_output::front_length(&out, written.count);
     if check::same(&out[..n], file) {
         io::write_all(STDOUT_FILENO, b"accepted and rewritten\n");
     } else {

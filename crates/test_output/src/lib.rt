@@ -1,6 +1,4 @@
 // What the test programs print, and the buffers that they lend.
-ghost use mathlib.Core.Path.{_≡_};
-ghost use lib.ListN.{length};
 ghost use Rattle.io.specs.Counts.{Counts};
 use libc::STDOUT_FILENO;
 use output::Written;
@@ -8,15 +6,15 @@ use output::Written;
 // Buffers hold this byte before a call.
 const UNTOUCHED: u8 = 165;
 
-// A buffer with more room than the longest site file and the longest timetable need.
-pub fn buffer() -> [u8; 4096]
-    ensures { λ r. ⌜ 4096 ≡ length r ⌝ }
-{
-    [UNTOUCHED; 4096]
+// The bytes of a buffer: more than the longest site file and the longest timetable need.
+pub const ROOM: usize = 4096;
+
+pub fn buffer() -> [u8; ROOM] {
+    [UNTOUCHED; ROOM]
 }
 
-// So many bytes, or all of a buffer that has fewer.
-pub fn within(buffer: &[u8], size: usize) -> usize
+// How long the front of so many bytes is; a buffer that has fewer is its own front.
+pub fn front_length(buffer: &[u8], size: usize) -> usize
     ensures { λ r. ⌜ Counts r (now (buffer .entry)) ⌝ }
 {
     if buffer.len() < size {

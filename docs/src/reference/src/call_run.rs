@@ -5,12 +5,12 @@
 //! 2 a state in place of the present one;
 //! 3 a number of the site record set to any value: its section from 0, its place from 1 or 0 for the count, the value;
 //! 4 the site record of the file again; 5 power-up;
-//! 6 poll into a buffer of so many bytes;
-//! 7 decide: a row of no lanes; 8 write into a buffer of so many bytes.
+//! 6 poll into a buffer of so many bytes, or of `ROOM` where that is less;
+//! 7 decide: a row of no lanes; 8 write into such a buffer.
 //! An unknown or a cut operation ends the case.
 
 use crate::calendar::Clock;
-use crate::output::Outcome;
+use crate::output::{Outcome, ROOM};
 use crate::periods::Counts;
 use crate::record::Record;
 use crate::row;
@@ -20,9 +20,6 @@ use crate::text;
 use crate::tick::{self, state_spoilt, Answer, Input, KeptLane, State, NOTHING_DECIDED};
 use crate::wanted::{cycle, Command, Wish};
 use std::fmt::Write;
-
-/// The longest buffer; one that is asked to be longer has this length.
-const ROOM: usize = 4096;
 
 #[derive(Clone, Debug)]
 pub enum Op {
@@ -227,7 +224,10 @@ impl Run<'_> {
         self.site = self.record.site();
         if self.site.is_none() {
             self.tally.count("sites spoilt", 1);
-            self.tally.count(SPOILT_IN[section as usize], 1);
+            // a section that there is not leaves a spoilt record as it was
+            if let Some(spoilt) = SPOILT_IN.get(section as usize) {
+                self.tally.count(spoilt, 1);
+            }
             let beyond = place != 0 && self.record.beyond(section, place);
             self.tally.count("sites spoilt beyond a count", beyond as u64);
         }

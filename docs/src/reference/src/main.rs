@@ -71,6 +71,11 @@ fn cases_of(program: &str, seed: Option<u64>, tally: &mut Tally) -> (Vec<Vec<u8>
     }
 }
 
+/// A file's bytes; an absent one counts as empty.
+fn contents(file: &str) -> Vec<u8> {
+    std::fs::read(file).unwrap_or_default()
+}
+
 fn main() -> Result<()> {
     let words: Vec<String> = std::env::args().skip(1).collect();
     let words: Vec<&str> = words.iter().map(String::as_str).collect();
@@ -104,13 +109,11 @@ fn main() -> Result<()> {
             out.write_all(simulated_day::print(&file).as_bytes())
         }
         ["simulated-day", "samples"] => out.write_all(simulated_day::print_samples().as_bytes()),
-        ["timetable", file] => out.write_all(timetable::print(&std::fs::read(file)?).as_bytes()),
+        ["timetable", file] => out.write_all(timetable::print(&contents(file)).as_bytes()),
         ["replay", file] => {
             let mut ticks = Vec::new();
             std::io::stdin().read_to_end(&mut ticks)?;
-            // an absent file counts as empty
-            let file = std::fs::read(file).unwrap_or_default();
-            out.write_all(replay::print(&file, &ticks).as_bytes())
+            out.write_all(replay::print(&contents(file), &ticks).as_bytes())
         }
         ["replay-ticks"] => out.write_all(replay_files::ticks().as_bytes()),
         ["replay-cases", "stdout"] => out.write_all(replay_files::answers().as_bytes()),

@@ -4,6 +4,9 @@
 /// What the test programs' buffers hold before a call.
 const UNTOUCHED: u8 = 165;
 
+/// How many bytes the longest of them has.
+pub const ROOM: usize = 4096;
+
 /// Writes these bytes, or answers 11.
 pub fn write(bytes: &[u8], out: &mut [u8]) -> Result<usize, u8> {
     if out.len() < bytes.len() {

@@ -43,10 +43,10 @@ impl Record {
         }
     }
 
-    /// Whether a place is in a row beyond the section's count.
+    /// Whether a place is in a row beyond the section's count; never of a section that there is not.
     pub fn beyond(&self, section: u16, place: u16) -> bool {
-        let width = ROOMS[section as usize].1;
-        place as usize > self.0[section as usize].count as usize * width
+        let kept = self.0.get(section as usize).zip(ROOMS.get(section as usize));
+        kept.is_some_and(|(kept, (_, width))| place as usize > kept.count as usize * width)
     }
 
     /// The site that a file with these numbers gives, if its record is this one; none where no file could give the record.

@@ -3,7 +3,8 @@
 
 use crate::call_run::{from_power_up, payload, Op};
 use crate::files::{longest, site_a, site_with_rows};
-use crate::site::{bytes, Site, UNUSED};
+use crate::output::ROOM;
+use crate::site::{bytes, Site, TIMINGS, UNUSED};
 use crate::tick::State;
 use crate::tick_cases::{counted, fixed, fresh, in_demand, DECIDE, POLL};
 
@@ -20,17 +21,27 @@ fn calls_on(section: u16, place: u16, value: u16) -> Vec<Op> {
     [&[Op::Damage(section, place, value)], &calls()[..], &powered].concat()
 }
 
-/// A section of a site: its number, how many numbers a row has, how many rows there are and how many there may be.
-type Section = (u16, u16, u16, u16);
+/// Each timing just below its range and just above it; the maximum green's low end is the minimum green.
+fn timing_damages(site: &Site) -> Vec<(u16, u16, u16)> {
+    let sides = |(i, (low, high)): (usize, (u16, u16))| {
+        let low = if i == 4 { site.timings[3] } else { low };
+        let values = low.checked_sub(1).into_iter().chain([high + 1]);
+        values.map(move |value| (0, i as u16 + 1, value))
+    };
+    TIMINGS.into_iter().enumerate().flat_map(sides).collect()
+}
 
-fn sections(site: &Site) -> [Section; 3] {
+/// A list of a site: its section's number, how many numbers a row has, how many rows there are and how many there may be.
+type List = (u16, u16, u16, u16);
+
+fn lists(site: &Site) -> [List; 3] {
     let Site { entries, holidays, levels, .. } = site;
     [(1, 5, entries.len() as u16, 16), (2, 4, holidays.len() as u16, 16), (3, 5, levels.len() as u16, 24)]
 }
 
 /// A count with the last row beyond it, with a row of zeros within it, and beyond what is allowed; numbers out of range in the
 /// first row and in the last; a number in each place of the first row beyond the count, and in the last place of all.
-fn damages((section, width, rows, most): Section) -> Vec<(u16, u16, u16)> {
+fn list_damages((section, width, rows, most): List) -> Vec<(u16, u16, u16)> {
     let counts = [rows - 1, rows + 1, most, most + 1, UNUSED, 0];
     let within = [1, (rows - 1) * width + 1, rows * width];
     let beyond = (1..=width).map(|j| rows * width + j).chain([most * width]);
@@ -42,11 +53,12 @@ fn damages((section, width, rows, most): Section) -> Vec<(u16, u16, u16)> {
 
 fn spoilt_records() -> Vec<Vec<u8>> {
     let site = site_with_rows();
-    let case = |section: Section| {
-        let ops: Vec<Op> = damages(section).into_iter().flat_map(|(section, place, value)| calls_on(section, place, value)).collect();
+    let case = |damages: Vec<(u16, u16, u16)>| {
+        let ops: Vec<Op> = damages.into_iter().flat_map(|(section, place, value)| calls_on(section, place, value)).collect();
         from_power_up(&bytes(&site), &ops)
     };
-    sections(&site).into_iter().map(case).collect()
+    let of_lists = lists(&site).into_iter().map(list_damages);
+    [timing_damages(&site)].into_iter().chain(of_lists).map(case).collect()
 }
 
 /// The last row goes and comes back, number by number; the record is that of a file before, behind and once between.
@@ -63,6 +75,8 @@ fn row_by_row() -> Vec<u8> {
     // places that there are not
     ops.extend([Op::Damage(0, 0, 14), Op::Damage(0, 16, 1), Op::Damage(1, 81, 1), Op::Damage(2, 65, 1), Op::Damage(3, 121, 1)]);
     ops.extend([Op::Damage(4, 1, 1), Op::Write(600)]);
+    // the same of a spoilt record
+    ops.extend([Op::Damage(0, 1, 0), Op::Damage(4, 1, 1), Op::Write(600)]);
     payload(&bytes(&site_with_rows()), &ops)
 }
 
@@ -106,7 +120,8 @@ fn write_buffers() -> Vec<Vec<u8>> {
     let case = |site: Site| {
         let file = bytes(&site);
         let size = file.len() as u16;
-        let writes = [0, 1, size - 1, size, size + 1, 4095, 4096, 4097, UNUSED].map(Op::Write);
+        let room = ROOM as u16;
+        let writes = [0, 1, size - 1, size, size + 1, room - 1, room, room + 1, UNUSED].map(Op::Write);
         payload(&file, &[&writes[..], &[Op::Damage(0, 1, 0)], &writes].concat())
     };
     [site_a(), site_with_rows(), longest()].into_iter().map(case).collect()

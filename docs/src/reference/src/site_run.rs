@@ -1,13 +1,10 @@
 //! What `crates/site_bounds` prints of a site file.
 
-use crate::output::{write, Outcome};
+use crate::output::{write, Outcome, ROOM};
 use crate::site;
 use crate::tally::Tally;
 use crate::text;
 use crate::timetable;
-
-/// The length of the longest buffer.
-const ROOM: usize = 4096;
 
 /// Into a buffer with much room, into one that just holds the bytes, and into one that is a byte shorter.
 fn line(name: &str, bytes: &[u8], tally: &mut Tally) -> String {

@@ -29,10 +29,11 @@ fn wish(wish: Wish) -> (&'static str, u16) {
     }
 }
 
-/// Day, entry, source, level, wish and rate.
+/// Day, entry, source, level, wish and rate; `-` for no day.
 pub fn decision(d: &Decision) -> String {
     let (wish, rate) = wish(d.wish);
-    format!("{} {} {} {} {wish} {rate}", DAYS[d.day], d.entry, d.source, d.level)
+    let day = d.day.map_or("-", |day| DAYS[day]);
+    format!("{day} {} {} {} {wish} {rate}", d.entry, d.source, d.level)
 }
 
 pub fn hex(bytes: &[u8]) -> String {

@@ -154,7 +154,7 @@ pub struct Answer {
     pub released: usize,
 }
 
-pub const NOTHING_DECIDED: Decision = Decision { day: 0, entry: 0, source: "plan", level: 0, wish: Wish::Dark };
+pub const NOTHING_DECIDED: Decision = Decision { day: None, entry: 0, source: "plan", level: 0, wish: Wish::Dark };
 
 /// The state as it came, and nothing decided.
 fn refused(refusal: u8, indications: Indications, state: &State) -> Answer {

@@ -21,7 +21,8 @@ pub enum Wish {
 
 #[derive(Clone, Copy, Debug)]
 pub struct Decision {
-    pub day: usize,
+    /// None where nothing is decided.
+    pub day: Option<usize>,
     /// The entry's place in the file from 1, 0 for none.
     pub entry: usize,
     pub source: &'static str,
@@ -130,5 +131,5 @@ pub fn decide(site: &Site, clock: Clock, commands: [Command; 2], p: &Periods) ->
             ("plan", wish(site, mode, rate, table, p))
         }
     };
-    Decision { day, entry, source, level, wish }
+    Decision { day: Some(day), entry, source, level, wish }
 }

@@ -6,8 +6,8 @@ use lib.ListN.{length}
 use lib.Seq.{length-take-le}
 use native.Mathlib.Omega.{arith}
 use Rattle.io.specs.Counts.{Counts}
-use Rattle.test_output.proofs.within.Statement.{statement}
-use Rattle.test_output.proofs.within.Tie as tie
+use Rattle.test_output.proofs.front_length.Statement.{statement}
+use Rattle.test_output.proofs.front_length.Tie as tie
 
 counts : (n : ℕ) (xs : List ℕ) → n ≤ length xs → Counts n xs
 counts n xs h = (h, sym (length-take-le _ _ h))
@@ -18,5 +18,5 @@ returns c = counts _ _ (omega arith)
 returns-2 : tie.Need-returns-2
 returns-2 c = counts _ _ (omega arith)
 
-pub within-spec : {M : Type 1} → statement M
-within-spec = tie.close (tie.spec returns returns-2)
+pub front-length-spec : {M : Type 1} → statement M
+front-length-spec = tie.close (tie.spec returns returns-2)
