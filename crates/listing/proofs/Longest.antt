@@ -8,6 +8,7 @@ use native.Mathlib.Omega.{arith}
 use borrow.Author.Tests.{ltb-true, ltb-false, eqb-true, eqb-false, leb-true}
 use lib.Dec.{ltb, leb, eqb}
 use lib.ListN.{length, getD, length-append}
+use Rattle.text.specs.Ascii.{ascii}
 use Rattle.text.specs.Decimal.{digitsIn, decimal}
 use Rattle.phrases.specs.Phrases.{dayNames, dayName, refusalLine}
 use Rattle.plan.specs.declared.Entry.{Entry}
@@ -39,7 +40,7 @@ decimal-most : (k n : ℕ) → n < tens k → length (decimal n) ≤ suc k
 unfolding decimal
 decimal-most k n h = digits-most (suc n) k n h
 
--- A name of a table is no longer than the longest.
+-- A name of a table, or what stands for a place beyond it, is no longer than the longest.
 abbrev allShort : ℕ → List (List ℕ) → Bool
 allShort k [] = true
 allShort k (x ∷ xs) = cond (leb (length x) k) (allShort k xs) false
@@ -48,18 +49,18 @@ short-case : (k : ℕ) (x : List ℕ) (xs : List (List ℕ)) (b : Bool) → leb 
 short-case k x xs true e h = (leb-true (length x) k e, rw e at h)
 short-case k x xs false e h = absurd (true≢false (sym (rw e at h)))
 
-name-most : (k : ℕ) (names : List (List ℕ)) → allShort k names ≡ true → (i : ℕ) → length (getD names i []) ≤ k
-name-most k [] e i = omega arith
-name-most k (x ∷ xs) e zero = short-case k x xs _ refl e .0
-name-most k (x ∷ xs) e (suc i) = name-most k xs (short-case k x xs _ refl e .1) i
+name-most : (k : ℕ) (beyond : List ℕ) (names : List (List ℕ)) → length beyond ≤ k → allShort k names ≡ true → (i : ℕ) → length (getD names i beyond) ≤ k
+name-most k beyond [] h e i = h
+name-most k beyond (x ∷ xs) h e zero = short-case k x xs _ refl e .0
+name-most k beyond (x ∷ xs) h e (suc i) = name-most k beyond xs h (short-case k x xs _ refl e .1) i
 
 day-name-most : (day : ℕ) → length (dayName day) ≤ 3
 unfolding dayName
-day-name-most day = name-most 3 dayNames refl day
+day-name-most day = name-most 3 (ascii "-") dayNames (omega arith) refl day
 
 mode-name-most : (mode : ℕ) → length (modeName mode) ≤ 5
 unfolding modeName
-mode-name-most mode = name-most 5 modeNames refl mode
+mode-name-most mode = name-most 5 [] modeNames (omega arith) refl mode
 
 -- One line.
 line-most : (day filed : ℕ) (e : Entry) → e .rate ≤ 1800 → e .table ≤ 4 → (length (decimal filed) ≤ 1 → length (lineOf day e filed) ≤ 25) × (length (decimal filed) ≤ 2 → length (lineOf day e filed) ≤ 26)
