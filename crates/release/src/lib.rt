@@ -91,10 +91,11 @@ fn next_lane(n: u16, k: u16) -> u16
 fn first_ready(t: Timings, cycle: u16, demand: [u16; 4], s: Lanes) -> u16
     ensures { λ r. ⌜ r ≡ firstAfter (readyAt t cycle demand s) (t .lanes) (s .last) (t .lanes) ⌝ }
 {
+    let n = t.lanes;
     let mut k = s.last;
-    let mut more = t.lanes;
+    let mut more = n;
     while 0 < more {
-        k = next_lane(t.lanes, k);
+        k = next_lane(n, k);
         if ready_at(t, cycle, demand, s, k) {
             return k;
         }

@@ -10,10 +10,10 @@ use Rattle.release.proofs.first_ready.Statement.{statement}
 use Rattle.release.proofs.first_ready.Tie as tie
 
 abbrev Inv-loop : tie.InvT-loop
-Inv-loop t cycle demand s k₀ more₀ k more = firstAfter (readyAt t cycle demand s) (t .lanes) k more ≡ firstAfter (readyAt t cycle demand s) (t .lanes) (s .last) (t .lanes)
+Inv-loop t cycle demand s n k₀ more₀ k more = firstAfter (readyAt t cycle demand s) (t .lanes) k more ≡ firstAfter (readyAt t cycle demand s) (t .lanes) (s .last) (t .lanes)
 
 abbrev μ-loop : tie.MeasureT-loop
-μ-loop t cycle demand s k₀ more₀ k more = more
+μ-loop t cycle demand s n k₀ more₀ k more = more
 
 abbrev ready : tie.Start Inv-loop μ-loop → ℕ → Bool
 ready s = readyAt (s .args .t) (s .args .cycle) (s .args .demand) (s .args .s)
