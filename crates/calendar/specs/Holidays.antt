@@ -30,7 +30,7 @@ inWeek day row = eqb (day .month) (row .month) && cond (eqb (row .nth) 5) (day .
 unfoldable pub isFloating : Day → Row → Bool
 isFloating day row = eqb (day .weekday) (row .weekday) && inWeek day row
 
--- "Kind 1 fixed, 2 floating, 3 the day after a floating one." "A date is of kind 3 if the day before is the floating date."
+-- "Kind 1 fixed, 2 floating, 3 the day after a floating one." "A date is of kind 3 if the day before (..) is the floating date."
 unfoldable pub isNamed : Day → Day → Row → Bool
 isNamed today yesterday row =
     cond (eqb (row .kind) 1) (isFixed today row)

@@ -1,5 +1,5 @@
--- Document 01, 'A state is spoilt if', of the two periods' counts: "period ticks exceed 299, a count exceeds the period's ticks (300 in the
--- completed one, 0 at serial 0), occupied time 100 × them, a speed sum 250 × the vehicles that had one, those the vehicles, or anything
+-- Document 01, 'A state is spoilt if', of the two periods' counts: "period ticks exceed 299, .. a count exceeds the period's ticks (300 in
+-- the completed one, 0 at serial 0), occupied time 100 × them, a speed sum 250 × the vehicles that had one, those the vehicles, or anything
 -- kept beyond n or m is not 0".
 use Prim.Native.Nat.{ℕ, _*_}
 use mathlib.Core.Bool.{Bool, cond, _||_}

@@ -41,7 +41,7 @@ pub struct LaneCounts {
 }
 
 // How many accepted ticks a period has.
-pub const TICKS_OF_A_PERIOD: u16 = 300;
+const TICKS_OF_A_PERIOD: u16 = 300;
 
 // The most that the open one has.
 const MOST_OPEN_TICKS: u16 = TICKS_OF_A_PERIOD - 1;
