@@ -1,16 +1,43 @@
--- The tick of a line: decimal numbers with one blank between, a tick's row with the tenth as one number.
-use Prim.Native.Nat.{ℕ}
-use mathlib.Core.Bool.{true, false, cond}
+-- The tick of a line, or why it is none.
+use Prim.Native.Nat.{ℕ, _-_}
+use mathlib.Core.Bool.{Bool, true, false, cond}
 use lib.Dec.{eqb}
-use Rattle.tick_row.specs.Row.{rowSize, inputOf}
+use lib.ListN.{replicate}
+use Rattle.tick_row.specs.Row.{longestRow, rowSize, inputOf}
 use Rattle.tick_line.specs.declared.scan.Scan.{Scan}
+use Rattle.tick_line.specs.declared.scan.Stage.{Stage}
+use Rattle.tick_line.specs.declared.scan.Stage.the-variants.{Between, Number, Blanks, NoNumber, Above, Empty}
+use Rattle.tick_line.specs.declared.reading.Verdict.{Verdict}
+use Rattle.tick_line.specs.declared.reading.Verdict.the-variants.{Tick, Count, NoNumber as WordNoNumber, Above as WordAbove, Empty as WordEmpty}
 use Rattle.tick_line.specs.declared.reading.ReadLine.{ReadLine}
-use Rattle.tick_line.specs.Scan.{noTick}
+use Rattle.tick_line.specs.Scan.{oneMore}
 
--- A line that is no tick gives zeros.
-unfoldable pub noTickRead : ReadLine
-noTickRead = record { good = false; input = inputOf (noTick .row) 0 0 }
+-- A line is a tick's row with the tenth as one number, at a site of n metered and m mainline lanes.
+unfoldable pub wordsWanted : ℕ → ℕ → ℕ
+wordsWanted n m = rowSize n m - 1
 
--- The tick of a line's numbers: there are as many as n metered and m mainline lanes ask.
+-- `18 numbers, 20 wanted`.
+unfoldable pub counted : ℕ → ℕ → Verdict
+counted words wanted = cond (eqb words wanted) Tick (Count words wanted)
+
+-- A word that is no tick's is the one behind the numbers so far; else the numbers are counted.
+abbrev pub verdictOf : Stage → ℕ → ℕ → Verdict
+verdictOf Between words wanted = counted words wanted
+verdictOf Number words wanted = counted words wanted
+verdictOf Blanks words wanted = counted words wanted
+verdictOf NoNumber words wanted = WordNoNumber (oneMore words)
+verdictOf Above words wanted = WordAbove (oneMore words)
+verdictOf Empty words wanted = WordEmpty (oneMore words)
+
+abbrev pub isTick : Verdict → Bool
+isTick Tick = true
+isTick (Count words wanted) = false
+isTick (WordNoNumber word) = false
+isTick (WordAbove word) = false
+isTick (WordEmpty word) = false
+
+-- What is read of a line's words; a line that is no tick gives zeros.
 unfoldable pub tickRead : Scan → ℕ → ℕ → ReadLine
-tickRead s n m = cond (s .good) (cond (eqb (s .count) (rowSize n m)) (record { good = true; input = inputOf (s .row) n m }) noTickRead) noTickRead
+tickRead s n m =
+    let verdict : Verdict = verdictOf (s .stage) (s .words) (wordsWanted n m) in
+    record { verdict = verdict; input = cond (isTick verdict) (inputOf (s .row) n m) (inputOf (replicate longestRow 0) 0 0) }

@@ -1,0 +1,83 @@
+// Reading ticks and writing their answers.
+ghost use Prim.Native.Nat.{_≤_};
+ghost use lib.ListN.{length};
+use libc::STDOUT_FILENO;
+use replay_lines::Run;
+use site::Site;
+
+// The run, and whether more is to be read.
+struct Going {
+    run: Run,
+    on: bool,
+}
+
+// Writes the first n bytes out. A failure is reported on standard error.
+pub fn write_front(out: &[u8], n: usize) -> bool {
+    if out.len() < n {
+        return false;
+    }
+    if io::write_all(STDOUT_FILENO, &out[..n]) {
+        return true;
+    }
+    os::fail(b"standard output");
+    false
+}
+
+// Takes the bytes of one read, and writes all that they add.
+fn take_all(site: Site, first: Run, bytes: &[u8], out: &mut [u8]) -> Going {
+    let mut run = first;
+    let mut from: usize = 0;
+    while from < bytes.len() {
+        let taken = replay_lines::take(site, run, &bytes[from..], out);
+        run = taken.run;
+        if !write_front(out, taken.text) {
+            return Going { run, on: false };
+        }
+        if taken.bytes == 0 {
+            return Going { run, on: false };
+        }
+        from += taken.bytes;
+    }
+    Going {
+        run,
+        on: !run.ended,
+    }
+}
+
+// One read of the ticks.
+fn read_some(site: Site, run: Run, fd: i32, bytes: &mut [u8], out: &mut [u8]) -> Going {
+    let got = libc::read(fd, bytes);
+    if got < 0 {
+        os::fail(b"the ticks");
+        return Going { run, on: false };
+    }
+    let n = io::count(got, bytes);
+    if n == 0 {
+        let end = replay_lines::put_last(out, 0, site, run);
+        write_front(out, end);
+        return Going { run, on: false };
+    }
+    take_all(site, run, &bytes[..n], out)
+}
+
+// Reads ticks until they end or a line is no tick. All answers are written before the next read.
+pub fn replay_at(site: Site, fd: i32) {
+    let mut space = io::large_buffer();
+    let out: &mut [u8] = &mut space;
+    let mut more = io::large_buffer();
+    let bytes: &mut [u8] = &mut more;
+    let heading = tick_text::put_heading(out, 0);
+    let mut going = Going {
+        run: replay_lines::start(site),
+        on: write_front(out, heading),
+    };
+    let mut left: u64 = 18446744073709551615;
+    while 0 < left {
+        if !going.on {
+            return;
+        }
+        let run = going.run;
+        going = read_some(site, run, fd, bytes, out);
+        left -= 1;
+    }
+}

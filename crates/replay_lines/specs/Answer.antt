@@ -1,0 +1,23 @@
+-- What a tick adds to a replay's output.
+use Prim.Native.Nat.{ℕ}
+use mathlib.Core.Bool.{Bool, cond, _&&_}
+use mathlib.Core.List.{List, [], _++_}
+use lib.Dec.{eqb}
+use Rattle.site.specs.declared.Site.{Site}
+use Rattle.site.specs.Named.{meteredLanes}
+use Rattle.state.specs.declared.State.{State}
+use Rattle.tick.specs.declared.Ticked.{Ticked}
+use Rattle.poll.specs.Poll.{pollOf, refusalOf}
+use Rattle.tick_text.specs.Lines.{tickLine, pollLine}
+
+-- A tick completes a period if it is accepted and leaves the open period with no tick.
+unfoldable pub completes : Ticked → Bool
+completes t = eqb (t .refusal) 0 && eqb (t .state .periods .ticks) 0
+
+-- The poll record's line; behind a completed period the poll is never refused (law `period-polled`).
+unfoldable pub polledText : Site → State → List ℕ
+polledText x s = pollLine (cond (eqb (refusalOf x s) 0) (pollOf x s) [])
+
+-- The tick's line, and the poll's where the tick completed a period.
+unfoldable pub answerText : Site → ℕ → Ticked → List ℕ
+answerText x number t = tickLine number (meteredLanes x) t ++ cond (completes t) (polledText x (t .state)) []

@@ -1,0 +1,3 @@
+pub mod NoTick
+pub mod Answer
+pub mod Replay
