@@ -4,8 +4,9 @@
 //! - `call-cases stdin`, `call-cases stdout`: the files of `crates/call_cases`.
 //! - `random PROGRAM SEED FOLDER`: fresh cases of a seed for one of these two programs, as FOLDER/stdin, and what they give,
 //!   as FOLDER/stdout; prints how many of each kind they are.
-//! - `random timetable SEED FOLDER`: site files for the timetable program, FOLDER/0/site.bin and so on, and what it prints of
-//!   all of them, as FOLDER/stdout.
+//! - `random timetable SEED FOLDER`: site files for the timetable program, FOLDER/0/site.bin and so on, and what it prints and explains of
+//!   all of them, as FOLDER/stdout and FOLDER/stderr.
+//! - `random replay SEED FOLDER`: the same for the replay program, with ticks, FOLDER/0/ticks and so on.
 //! - `simulated-day stdin`: the site file of `crates/simulated_day`; `simulated-day`: what that program prints of the site file on
 //!   standard input, and what it explains; `simulated-day samples`: what it prints of the samples alone.
 //! - `timetable FILE [NAME]`: what the timetable program prints of a file, and on standard error why it is refused, as a file of that name.
@@ -30,6 +31,7 @@ mod periods;
 mod poll;
 mod random;
 mod random_cases;
+mod random_replay;
 mod record;
 mod refusal_cases;
 mod replay;
@@ -124,9 +126,24 @@ fn main() -> Result<()> {
                 std::fs::create_dir_all(format!("{folder}/{i}"))?;
                 std::fs::write(format!("{folder}/{i}/site.bin"), file)?;
             }
-            let printed: String = files.iter().map(|file| timetable::print(file)).collect();
-            std::fs::write(format!("{folder}/stdout"), printed)?;
+            std::fs::write(format!("{folder}/stdout"), files.iter().map(|file| timetable::print(file)).collect::<String>())?;
+            std::fs::write(format!("{folder}/stderr"), files.iter().map(|file| diagnosis::of(file, "site.bin")).collect::<String>())?;
             writeln!(out, "{} timetables", files.len())
+        }
+        ["random", "replay", seed, folder] => {
+            let tally = &mut Tally::default();
+            let (mut stdout, mut stderr) = (String::new(), String::new());
+            for (i, run) in random_replay::runs(seed.parse().expect("a seed")).iter().enumerate() {
+                std::fs::create_dir_all(format!("{folder}/{i}"))?;
+                std::fs::write(format!("{folder}/{i}/site.bin"), &run.file)?;
+                std::fs::write(format!("{folder}/{i}/ticks"), &run.ticks)?;
+                let said = random_replay::answer(run, tally);
+                stdout += &said.output;
+                stderr += &said.explanation;
+            }
+            std::fs::write(format!("{folder}/stdout"), stdout)?;
+            std::fs::write(format!("{folder}/stderr"), stderr)?;
+            out.write_all(tally.print().as_bytes())
         }
         ["simulated-day", "stdin"] => out.write_all(&site::bytes(&simulated_day::site())),
         ["simulated-day"] => {
