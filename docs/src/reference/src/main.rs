@@ -4,12 +4,13 @@
 //! - `call-cases stdin`, `call-cases stdout`: the files of `crates/call_cases`.
 //! - `random PROGRAM SEED FOLDER`: fresh cases of a seed for one of these two programs, as FOLDER/stdin, and what they give,
 //!   as FOLDER/stdout; prints how many of each kind they are.
-//! - `random timetable SEED FOLDER`: site files for the timetable program, FOLDER/0/site.bin and so on, and what it prints of
-//!   all of them, as FOLDER/stdout.
+//! - `random timetable SEED FOLDER`: site files for the timetable program, FOLDER/0/site.bin and so on, and what it prints and explains of
+//!   all of them, as FOLDER/stdout and FOLDER/stderr.
+//! - `random replay SEED FOLDER`: the same for the replay program, with ticks, FOLDER/0/ticks and so on.
 //! - `simulated-day stdin`: the site file of `crates/simulated_day`; `simulated-day`: what that program prints of the site file on
-//!   standard input; `simulated-day samples`: what it prints of the samples alone.
-//! - `timetable FILE`: what the timetable program prints of a file.
-//! - `replay FILE`: what the replay program prints of a site file and the ticks on standard input.
+//!   standard input, and what it explains; `simulated-day samples`: what it prints of the samples alone.
+//! - `timetable FILE [NAME]`: what the timetable program prints of a file, and on standard error why it is refused, as a file of that name.
+//! - `replay FILE [NAME]`: what the replay program prints of a site file and the ticks on standard input, and what it explains.
 //! - `replay-ticks`: the ticks of `crates/replay`.
 //! - `replay-cases stdout`: what `crates/replay_cases` prints.
 //! - `replay-files FOLDER`: the files that it reads.
@@ -21,6 +22,7 @@ mod calendar;
 mod call_cases;
 mod call_run;
 mod cases;
+mod diagnosis;
 mod files;
 mod group;
 mod lanes;
@@ -29,10 +31,13 @@ mod periods;
 mod poll;
 mod random;
 mod random_cases;
+mod random_replay;
 mod record;
 mod refusal_cases;
 mod replay;
 mod replay_files;
+mod replay_lines;
+mod replay_refusals;
 mod row;
 mod simulated_day;
 mod site;
@@ -41,6 +46,7 @@ mod tally;
 mod text;
 mod tick;
 mod tick_cases;
+mod tick_diagnosis;
 mod timetable;
 mod timetable_files;
 mod timings;
@@ -76,6 +82,28 @@ fn contents(file: &str) -> Vec<u8> {
     std::fs::read(file).unwrap_or_default()
 }
 
+fn standard_input() -> Result<Vec<u8>> {
+    let mut bytes = Vec::new();
+    std::io::stdin().read_to_end(&mut bytes)?;
+    Ok(bytes)
+}
+
+/// Writes what a program prints and what it explains.
+fn say(output: &str, explanation: &str) -> Result<()> {
+    std::io::stdout().write_all(output.as_bytes())?;
+    std::io::stderr().write_all(explanation.as_bytes())
+}
+
+fn timetable(file: &str, name: &str) -> Result<()> {
+    let file = contents(file);
+    say(&timetable::print(&file), &diagnosis::of(&file, name))
+}
+
+fn replay(file: &str, name: &str) -> Result<()> {
+    let said = replay::print(&contents(file), name, &standard_input()?);
+    say(&said.output, &said.explanation)
+}
+
 fn main() -> Result<()> {
     let words: Vec<String> = std::env::args().skip(1).collect();
     let words: Vec<&str> = words.iter().map(String::as_str).collect();
@@ -98,26 +126,38 @@ fn main() -> Result<()> {
                 std::fs::create_dir_all(format!("{folder}/{i}"))?;
                 std::fs::write(format!("{folder}/{i}/site.bin"), file)?;
             }
-            let printed: String = files.iter().map(|file| timetable::print(file)).collect();
-            std::fs::write(format!("{folder}/stdout"), printed)?;
+            std::fs::write(format!("{folder}/stdout"), files.iter().map(|file| timetable::print(file)).collect::<String>())?;
+            std::fs::write(format!("{folder}/stderr"), files.iter().map(|file| diagnosis::of(file, "site.bin")).collect::<String>())?;
             writeln!(out, "{} timetables", files.len())
+        }
+        ["random", "replay", seed, folder] => {
+            let tally = &mut Tally::default();
+            let (mut stdout, mut stderr) = (String::new(), String::new());
+            for (i, run) in random_replay::runs(seed.parse().expect("a seed")).iter().enumerate() {
+                std::fs::create_dir_all(format!("{folder}/{i}"))?;
+                std::fs::write(format!("{folder}/{i}/site.bin"), &run.file)?;
+                std::fs::write(format!("{folder}/{i}/ticks"), &run.ticks)?;
+                let said = random_replay::answer(run, tally);
+                stdout += &said.output;
+                stderr += &said.explanation;
+            }
+            std::fs::write(format!("{folder}/stdout"), stdout)?;
+            std::fs::write(format!("{folder}/stderr"), stderr)?;
+            out.write_all(tally.print().as_bytes())
         }
         ["simulated-day", "stdin"] => out.write_all(&site::bytes(&simulated_day::site())),
         ["simulated-day"] => {
-            let mut file = Vec::new();
-            std::io::stdin().read_to_end(&mut file)?;
-            out.write_all(simulated_day::print(&file).as_bytes())
+            let file = standard_input()?;
+            say(&simulated_day::print(&file), &diagnosis::of(&file, "standard input"))
         }
         ["simulated-day", "samples"] => out.write_all(simulated_day::print_samples().as_bytes()),
-        ["timetable", file] => out.write_all(timetable::print(&contents(file)).as_bytes()),
-        ["replay", file] => {
-            let mut ticks = Vec::new();
-            std::io::stdin().read_to_end(&mut ticks)?;
-            out.write_all(replay::print(&contents(file), &ticks).as_bytes())
-        }
+        ["timetable", file] => timetable(file, "site.bin"),
+        ["timetable", file, name] => timetable(file, name),
+        ["replay", file] => replay(file, "site.bin"),
+        ["replay", file, name] => replay(file, name),
         ["replay-ticks"] => out.write_all(replay_files::ticks().as_bytes()),
         ["replay-cases", "stdout"] => out.write_all(replay_files::answers().as_bytes()),
-        ["replay-files", folder] => replay_files::files().iter().try_for_each(|(name, file)| std::fs::write(format!("{folder}/{name}"), file)),
+        ["replay-files", folder] => replay_files::write(folder),
         ["paper-site"] => out.write_all(&site::bytes(&timetable_files::paper())),
         ["timetable-cases", "stdout"] => out.write_all(timetable_files::answers().as_bytes()),
         ["timetable-files", folder] => timetable_files::write(folder),

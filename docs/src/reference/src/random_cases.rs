@@ -26,7 +26,7 @@ const TIMETABLES: usize = 40;
 // Sites.
 
 /// Mostly short times, so that metering is reached soon.
-fn any_setting(r: &mut Random, k: u16) -> Setting {
+pub fn any_setting(r: &mut Random, k: u16) -> Setting {
     let short = r.percent(75);
     setting(r, |r| if short { short_timings(r, k) } else { cases::timings(r) })
 }
@@ -61,7 +61,7 @@ fn damage_number(r: &mut Random, file: &mut [u8]) {
     file[at..at + 2].copy_from_slice(&value.to_be_bytes());
 }
 
-fn damaged_file(r: &mut Random) -> Vec<u8> {
+pub fn damaged_file(r: &mut Random) -> Vec<u8> {
     let mut file = bytes(&any_site(r));
     for _ in 0..r.pick(&[0, 1, 1, 1, 1, 1, 2, 2, 3]) {
         if r.percent(60) {
@@ -96,7 +96,7 @@ fn any_state(r: &mut Random, s: &Setting) -> State {
     strange_state(r, &s.site.timings, cycle)
 }
 
-fn sound_input(r: &mut Random, s: &Setting) -> Input {
+pub fn sound_input(r: &mut Random, s: &Setting) -> Input {
     let mut input = quiet(if r.percent(75) { fixed(r.number(150, 1800)) } else { command(r, s, 40) });
     input.clock = jump(r, s);
     samples(r, s, 6, &mut input);

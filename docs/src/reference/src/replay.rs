@@ -1,44 +1,78 @@
 //! What the replay program prints: a site, and ticks as lines of numbers.
 
+use crate::diagnosis;
 use crate::periods::halves;
 use crate::row;
 use crate::site::{self, Site};
 use crate::text;
 use crate::tick::{poll_record, power_up, tick, Answer, Input};
+use crate::tick_diagnosis;
 use crate::wanted::lanes;
+
+/// What a run writes: on standard output, and on standard error the line that explains what was refused, if anything was.
+pub struct Replayed {
+    pub output: String,
+    pub explanation: String,
+}
 
 const HEADING: &str = "tick refusal interval age lanes lower sign day entry source level wish rate cycle released\n";
 
 // A line of input.
 
-/// Digits alone, up to `most`.
-fn number(word: &str, most: u32) -> Option<u32> {
-    if !word.bytes().all(|b| b.is_ascii_digit()) {
-        return None;
+/// The line without what belongs to its end: one carriage return, and before it blanks.
+fn without_end(line: &[u8]) -> &[u8] {
+    let mut line = line.strip_suffix(b"\r").unwrap_or(line);
+    while let Some(shorter) = line.strip_suffix(b" ") {
+        line = shorter;
     }
-    // an empty word and one too long do not parse
-    let n = word.parse().ok()?;
-    (n <= most).then_some(n)
+    line
 }
 
-/// The numbers of a line: each up to 65535, but for the tenth in the fourth place.
-fn numbers(line: &[u8]) -> Option<Vec<u32>> {
-    let words = std::str::from_utf8(line).ok()?.split(' ').enumerate();
-    words.map(|(i, word)| number(word, if i == 3 { u32::MAX } else { 65535 })).collect()
+/// The words of a line, between blanks; with nothing in it, none.
+fn words(line: &[u8]) -> Vec<&[u8]> {
+    let line = without_end(line);
+    if line.is_empty() {
+        return Vec::new();
+    }
+    line.split(|b| *b == b' ').collect()
 }
 
-/// The tick of a line, or none: clock, demand and passage of each lane, the mainline lanes' samples, two commands.
-fn input(site: &Site, line: &[u8]) -> Option<Input> {
+/// Whether a number of digits alone, of any length, is above another: the longer one is, and of two as long the later in a lexicon.
+fn is_above(digits: &[u8], most: &str) -> bool {
+    let zeros = digits.iter().take_while(|b| **b == b'0').count();
+    let digits = &digits[zeros..];
+    (digits.len(), digits) > (most.len(), most.as_bytes())
+}
+
+/// Word i of a line, from 1, as a number; or why it is none.
+fn number(i: usize, word: &[u8]) -> Result<u32, String> {
+    // the tenth alone may be long
+    let most = if i == 4 { "4294967295" } else { "65535" };
+    if word.is_empty() {
+        return Err(format!("word {i} is empty"));
+    }
+    if !word.iter().all(u8::is_ascii_digit) {
+        return Err(format!("word {i} is no number"));
+    }
+    if is_above(word, most) {
+        return Err(format!("word {i} is above {most}"));
+    }
+    Ok(std::str::from_utf8(word).unwrap().parse().unwrap())
+}
+
+/// The tick of a line, or why it is none: clock, demand and passage of each lane, the mainline lanes' samples, two commands.
+fn input(site: &Site, line: &[u8]) -> Result<Input, String> {
     let (n, m) = lanes(site);
-    let numbers = numbers(line)?;
-    if numbers.len() + 1 != row::size(n, m) {
-        return None;
-    }
+    let numbers = words(line).into_iter().enumerate().map(|(i, word)| number(i + 1, word)).collect::<Result<Vec<u32>, String>>()?;
     // the tenth is one number of the line, and two of the row
+    let wanted = row::size(n, m) - 1;
+    if numbers.len() != wanted {
+        return Err(format!("{} numbers, {wanted} wanted", numbers.len()));
+    }
     let [high, low] = halves(numbers[3]);
     let words: Vec<u16> = numbers.iter().map(|n| *n as u16).collect();
     let row = [&words[..3], &[high, low], &words[4..]].concat();
-    Some(row::input(&row, n, m))
+    Ok(row::input(&row, n, m))
 }
 
 // A line of output.
@@ -71,20 +105,33 @@ fn lines(text: &[u8]) -> Vec<&[u8]> {
     lines
 }
 
-pub fn print(file: &[u8], text: &[u8]) -> String {
-    let site = match site::read(file) {
-        Ok(site) => site,
-        Err(r) => return text::refusal(r),
-    };
-    let (_, mut state) = power_up(Some(&site));
-    let mut out = HEADING.to_string();
+/// What a run at a site writes.
+fn run(site: &Site, text: &[u8]) -> Replayed {
+    let (_, mut state) = power_up(Some(site));
+    let (mut output, mut explanation) = (HEADING.to_string(), String::new());
     for (i, line) in lines(text).into_iter().enumerate() {
-        let Some(input) = input(&site, line) else {
-            return out + &format!("line {} is no tick\n", i + 1);
+        let input = match input(site, line) {
+            Ok(input) => input,
+            Err(why) => {
+                output += &format!("line {} is no tick: {why}\n", i + 1);
+                break;
+            }
         };
-        let answer = tick(Some(&site), &state, &input);
-        out += &tick_lines(&site, i + 1, &answer);
+        let answer = tick(Some(site), &state, &input);
+        output += &tick_lines(site, i + 1, &answer);
+        // the first refused tick alone is explained
+        if answer.refusal != 0 && explanation.is_empty() {
+            explanation = tick_diagnosis::line(answer.refusal, &input, lanes(site), i + 1);
+        }
         state = answer.state;
     }
-    out
+    Replayed { output, explanation }
+}
+
+/// What the program writes of a site file of that name, and ticks.
+pub fn print(file: &[u8], name: &str, text: &[u8]) -> Replayed {
+    match site::read(file) {
+        Ok(site) => run(&site, text),
+        Err(refused) => Replayed { output: text::refusal(refused), explanation: diagnosis::of(file, name) },
+    }
 }

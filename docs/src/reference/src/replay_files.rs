@@ -1,27 +1,31 @@
-//! Ticks and site files for the replay program's tests.
+//! Ticks and site files for the replay program's tests, and the runs that its test program makes of them.
 
 use crate::files::{site_a, site_with_rows};
 use crate::replay;
+use crate::replay_lines;
+use crate::replay_refusals;
 use crate::site::{bytes, Site};
+use std::io::Result;
 
 /// The numbers of one tick's line.
-struct Line {
-    clock: [u32; 4],
-    lanes: Vec<[u32; 2]>,
-    mainline: Vec<[u32; 4]>,
-    commands: [[u32; 3]; 2],
+pub struct Line {
+    pub clock: [u32; 4],
+    pub lanes: Vec<[u32; 2]>,
+    pub mainline: Vec<[u32; 4]>,
+    pub commands: [[u32; 3]; 2],
 }
 
 impl Line {
-    fn text(&self) -> String {
-        let numbers = self.clock.iter().chain(self.lanes.as_flattened()).chain(self.mainline.as_flattened()).chain(self.commands.as_flattened());
+    pub fn text(&self) -> String {
+        let lanes = self.lanes.as_flattened().iter().chain(self.mainline.as_flattened());
+        let numbers = self.clock.iter().chain(lanes).chain(self.commands.as_flattened());
         numbers.map(u32::to_string).collect::<Vec<_>>().join(" ") + "\n"
     }
 }
 
 /// Tick i of a run at a site of two lanes and one mainline lane, on a Monday from 5:59:30 on: the plan's rate, from 6:00 the level that the
 /// first period decides.
-fn plain(i: u32) -> Line {
+pub fn plain(i: u32) -> Line {
     Line {
         clock: [2024, 6, 3, 215_700 + i],
         lanes: vec![[1, (i % 40 == 7) as u32], [(i / 100 % 2 == 0) as u32, (i % 55 == 9) as u32]],
@@ -55,15 +59,23 @@ fn wide_site() -> Site {
     site
 }
 
-/// One period there; every lane's numbers differ.
-fn wide_ticks() -> String {
-    let line = |i: u32| Line {
+/// Tick i of a run there; every lane's numbers differ.
+pub fn wide(i: u32) -> Line {
+    let mainline = |k: u32| {
+        let vehicle = (i % (20 + k) == 0) as u32;
+        [(k != 3 || i != 9) as u32, 10 * k + i % 11, vehicle, vehicle * (40 + k)]
+    };
+    Line {
         clock: [2000, 2, 29, i],
         lanes: (0..4).map(|k| [(i >> k) & 1, (i % (10 + 7 * k) == 0) as u32]).collect(),
-        mainline: (0..6).map(|k| [(k != 3 || i != 9) as u32, 10 * k + i % 11, (i % (20 + k) == 0) as u32, if i % (20 + k) == 0 { 40 + k } else { 0 }]).collect(),
+        mainline: (0..6).map(mainline).collect(),
         commands: [[0; 3]; 2],
-    };
-    (0..302).map(|i| line(i).text()).collect()
+    }
+}
+
+/// One period there.
+fn wide_ticks() -> String {
+    (0..302).map(|i| wide(i).text()).collect()
 }
 
 /// A site of one metered and one mainline lane.
@@ -85,81 +97,77 @@ fn long_ticks() -> String {
     (0..2700).map(|i| line(i).text()).collect()
 }
 
-/// The files that the test program reads.
-pub fn files() -> Vec<(&'static str, Vec<u8>)> {
-    let mut bad = bytes(&site_with_rows());
-    bad[9] = 101;
+// Runs.
+
+/// A run of the test program: the site file's name, the ticks' file's name, and the ticks.
+pub struct Run {
+    pub site: &'static str,
+    pub name: String,
+    pub ticks: Vec<u8>,
+}
+
+impl Run {
+    pub fn new(site: &'static str, name: &str, ticks: impl Into<Vec<u8>>) -> Run {
+        Run { site, name: name.to_string(), ticks: ticks.into() }
+    }
+}
+
+/// A site that is refused, and runs from power-up on.
+fn whole_runs() -> Vec<Run> {
     let good = plain(0).text();
-    let line = good.trim_end();
-    // a good line, one that is no tick, and one that is not read any more
-    let between = |middle: String| format!("{good}{middle}\n{good}").into_bytes();
     vec![
-        ("site.bin", bytes(&site_with_rows())),
-        ("wide.bin", bytes(&wide_site())),
-        ("refused.bin", bad),
-        ("wide.txt", wide_ticks().into_bytes()),
-        ("narrow.bin", bytes(&narrow_site())),
-        ("long.txt", long_ticks().into_bytes()),
-        ("no_lines.txt", Vec::new()),
-        ("good.txt", good.clone().into_bytes()),
-        ("no_newline.txt", format!("{good}{line}").into_bytes()),
-        ("no_newline_bad.txt", format!("{good}{line} ").into_bytes()),
-        ("empty_line.txt", between(String::new())),
-        ("letter.txt", between(line.replace("2024", "2o24"))),
-        ("sign.txt", between(format!("+{line}"))),
-        ("tab.txt", between(line.replace("2024 ", "2024\t"))),
-        ("carriage_return.txt", between(format!("{line}\r"))),
-        ("two_blanks.txt", between(line.replace("2024 ", "2024  "))),
-        ("blank_before.txt", between(format!(" {line}"))),
-        ("blank_behind.txt", between(format!("{line} "))),
-        ("too_few.txt", between(line[..line.len() - 2].to_string())),
-        ("too_many.txt", between(format!("{line} 0"))),
-        ("far_too_many.txt", between(format!("{line}{}", " 0".repeat(40)))),
-        ("year_65535.txt", between(line.replace("2024", "65535"))),
-        ("year_65536.txt", between(line.replace("2024", "65536"))),
-        ("tenth_4294967295.txt", between(line.replace("215700", "4294967295"))),
-        ("tenth_4294967296.txt", between(line.replace("215700", "4294967296"))),
-        ("number_of_30_digits.txt", between(line.replace("215700", &"1234567890".repeat(3)))),
-        ("leading_zeros.txt", between(line.replace("215700", &format!("{}215700", "0".repeat(70_000))))),
-        ("last_number_65536.txt", between(format!("{} 65536", &line[..line.len() - 2]))),
+        Run::new("absent.bin", "good.txt", good.clone()),
+        Run::new("refused.bin", "good.txt", good.clone()),
+        Run::new("site.bin", "good.txt", good),
+        Run::new("wide.bin", "wide.txt", wide_ticks()),
+        Run::new("site.bin", "wide.txt", wide_ticks()),
+        Run::new("narrow.bin", "long.txt", long_ticks()),
     ]
 }
 
-/// The runs that the test program makes: a site file, and ticks.
-const RUNS: [(&str, &str); 27] = [
-    ("absent.bin", "good.txt"),
-    ("refused.bin", "good.txt"),
-    ("wide.bin", "wide.txt"),
-    ("site.bin", "wide.txt"),
-    ("narrow.bin", "long.txt"),
-    ("site.bin", "no_lines.txt"),
-    ("site.bin", "good.txt"),
-    ("site.bin", "no_newline.txt"),
-    ("site.bin", "no_newline_bad.txt"),
-    ("site.bin", "empty_line.txt"),
-    ("site.bin", "letter.txt"),
-    ("site.bin", "sign.txt"),
-    ("site.bin", "tab.txt"),
-    ("site.bin", "carriage_return.txt"),
-    ("site.bin", "two_blanks.txt"),
-    ("site.bin", "blank_before.txt"),
-    ("site.bin", "blank_behind.txt"),
-    ("site.bin", "too_few.txt"),
-    ("site.bin", "too_many.txt"),
-    ("site.bin", "far_too_many.txt"),
-    ("site.bin", "year_65535.txt"),
-    ("site.bin", "year_65536.txt"),
-    ("site.bin", "tenth_4294967295.txt"),
-    ("site.bin", "tenth_4294967296.txt"),
-    ("site.bin", "number_of_30_digits.txt"),
-    ("site.bin", "leading_zeros.txt"),
-    ("site.bin", "last_number_65536.txt"),
-];
+/// In the order in which the test program makes them.
+fn runs() -> Vec<Run> {
+    [whole_runs(), replay_lines::runs(), replay_refusals::runs()].into_iter().flatten().collect()
+}
 
-/// What the test program prints.
+/// The site files that the test program reads; `absent.bin` is not there.
+fn sites() -> Vec<(&'static str, Vec<u8>)> {
+    let mut green_101 = bytes(&site_with_rows());
+    green_101[9] = 101;
+    vec![
+        ("site.bin", bytes(&site_with_rows())),
+        ("wide.bin", bytes(&wide_site())),
+        ("narrow.bin", bytes(&narrow_site())),
+        ("refused.bin", green_101),
+    ]
+}
+
+/// All files that the test program reads.
+fn files() -> Vec<(String, Vec<u8>)> {
+    let sites = sites().into_iter().map(|(name, file)| (name.to_string(), file));
+    let mut out: Vec<(String, Vec<u8>)> = sites.collect();
+    for run in runs() {
+        match out.iter().find(|(name, _)| *name == run.name) {
+            Some((name, ticks)) => assert!(*ticks == run.ticks, "two files of the name {name}"),
+            None => out.push((run.name, run.ticks)),
+        }
+    }
+    out
+}
+
+/// Writes the test program's folder.
+pub fn write(folder: &str) -> Result<()> {
+    files().iter().try_for_each(|(name, file)| std::fs::write(format!("{folder}/{name}"), file))
+}
+
+/// What the test program prints: of each run its names, its output and, behind that, what it explains.
 pub fn answers() -> String {
-    let files = files();
+    let sites = sites();
     // an absent file counts as empty
-    let file = |name: &str| files.iter().find(|(n, _)| *n == name).map_or(&[][..], |(_, bytes)| bytes);
-    RUNS.iter().map(|(site, ticks)| format!("-- {site} {ticks}\n{}", replay::print(file(site), file(ticks)))).collect()
+    let site = |name: &str| sites.iter().find(|(n, _)| *n == name).map_or(&[][..], |(_, file)| file);
+    let answer = |run: Run| {
+        let said = replay::print(site(run.site), run.site, &run.ticks);
+        format!("-- {} {}\n{}{}", run.site, run.name, said.output, said.explanation)
+    };
+    runs().into_iter().map(answer).collect()
 }

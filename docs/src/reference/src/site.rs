@@ -96,6 +96,25 @@ pub fn level_ok(row: &[u16], i: usize) -> bool {
     }
 }
 
+/// Section 0 timings, 1 plan entries, 2 holidays, 3 levels.
+pub fn count_ok(section: usize, count: u16) -> bool {
+    match section {
+        0 => count == 15,
+        1 | 2 => count <= 16,
+        _ => count <= 24,
+    }
+}
+
+/// Whether number i of a section's row is allowed, given what stands to its left; the timings are one row.
+pub fn number_ok(section: usize, row: &[u16], i: usize) -> bool {
+    match section {
+        0 => timing_ok(row, i),
+        1 => entry_ok(row, i),
+        2 => holiday_ok(row, i),
+        _ => level_ok(row, i),
+    }
+}
+
 struct Reader<'a> {
     file: &'a [u8],
     at: usize,
@@ -116,20 +135,14 @@ impl Reader<'_> {
     }
 
     /// One section: its rows, each of `width` numbers.
-    fn section(
-        &mut self,
-        allowed: impl Fn(u16) -> bool,
-        width: usize,
-        number: u8,
-        ok: impl Fn(&[u16], usize) -> bool,
-    ) -> Result<Vec<Vec<u16>>, Refused> {
+    fn section(&mut self, section: usize, width: usize) -> Result<Vec<Vec<u16>>, Refused> {
         let count_at = self.at;
         let count = self.number()?;
-        if !allowed(count) {
+        if !count_ok(section, count) {
             return Err(Refused { number: 2, place: count_at });
         }
         // the timings' count counts numbers, and they are one row
-        let rows = if width == 15 { 1 } else { count as usize };
+        let rows = if section == 0 { 1 } else { count as usize };
         if self.at + rows * width * 2 > self.file.len() {
             return Err(self.short());
         }
@@ -138,8 +151,8 @@ impl Reader<'_> {
             let begin = self.at;
             let row: Vec<u16> = (0..width).map(|_| self.number().unwrap()).collect();
             for i in 0..width {
-                if !ok(&row, i) {
-                    return Err(Refused { number, place: begin + i * 2 });
+                if !number_ok(section, &row, i) {
+                    return Err(Refused { number: 3 + section as u8, place: begin + i * 2 });
                 }
             }
             out.push(row);
@@ -150,10 +163,10 @@ impl Reader<'_> {
 
 pub fn read(file: &[u8]) -> Result<Site, Refused> {
     let mut r = Reader { file, at: 0 };
-    let timings = r.section(|n| n == 15, 15, 3, timing_ok)?.remove(0);
-    let entries = r.section(|n| n <= 16, 5, 4, entry_ok)?;
-    let holidays = r.section(|n| n <= 16, 4, 5, holiday_ok)?;
-    let levels = r.section(|n| n <= 24, 5, 6, level_ok)?;
+    let timings = r.section(0, 15)?.remove(0);
+    let entries = r.section(1, 5)?;
+    let holidays = r.section(2, 4)?;
+    let levels = r.section(3, 5)?;
     if r.at < file.len() {
         return Err(Refused { number: 7, place: r.at });
     }

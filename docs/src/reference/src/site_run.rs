@@ -1,5 +1,6 @@
 //! What `crates/site_bounds` prints of a site file.
 
+use crate::diagnosis;
 use crate::output::{write, Outcome, ROOM};
 use crate::site;
 use crate::tally::Tally;
@@ -22,7 +23,7 @@ pub fn answer(file: &[u8], tally: &mut Tally) -> String {
         }
         Err(r) => {
             tally.refused(r.number);
-            text::refusal(r)
+            text::refusal(r) + &diagnosis::of(file, "site.bin")
         }
     };
     read + &line("print", timetable::print(file).as_bytes(), tally)

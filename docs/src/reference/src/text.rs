@@ -7,6 +7,33 @@ use crate::wanted::{Decision, Wish};
 
 const LETTERS: [char; 4] = ['D', 'R', 'Y', 'G'];
 
+/// The trade words of the refusals that a program explains, from 1 on.
+const TRADE_WORDS: [&str; 10] = [
+    "short file",
+    "wrong count",
+    "bad timing",
+    "bad entry",
+    "bad holiday",
+    "bad level",
+    "long file",
+    "bad clock",
+    "bad sample",
+    "bad command",
+];
+
+/// The line that explains a refusal: its trade word, what is wrong, and where.
+pub fn explanation(refusal: u8, what: &str, place: &str) -> String {
+    format!("{}: {what} ({place})\n", TRADE_WORDS[refusal as usize - 1])
+}
+
+/// Both ends, or the one number that there is.
+pub fn range(low: u32, high: u32) -> String {
+    if low == high {
+        return low.to_string();
+    }
+    format!("{low}-{high}")
+}
+
 /// The line of a refused site file.
 pub fn refusal(r: Refused) -> String {
     format!("refused {} at {}\n", r.number, r.place)

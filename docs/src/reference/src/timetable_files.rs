@@ -1,5 +1,6 @@
 //! Site files for the timetable program's tests.
 
+use crate::diagnosis;
 use crate::files::{longest, site_a, site_with_rows};
 use crate::site::{bytes, Site};
 use crate::timetable;
@@ -59,12 +60,13 @@ pub fn write(folder: &str) -> Result<()> {
     Ok(())
 }
 
-/// What the test program prints: nothing of a folder, and an absent file counts as empty.
+/// What the test program prints: nothing of a folder, and an absent file counts as empty. Behind a refusal stands what explains it.
 pub fn answers() -> String {
-    let printed = |stored| match stored {
-        Stored::Nothing => timetable::print(&[]),
+    let printed = |name, file: &[u8]| timetable::print(file) + &diagnosis::of(file, name);
+    let of = |name, stored| match stored {
+        Stored::Nothing => printed(name, &[]),
         Stored::Folder => String::new(),
-        Stored::File(file) => timetable::print(&file),
+        Stored::File(file) => printed(name, &file),
     };
-    stored().into_iter().map(|(name, stored)| format!("-- {name}\n{}", printed(stored))).collect()
+    stored().into_iter().map(|(name, stored)| format!("-- {name}\n{}", of(name, stored))).collect()
 }
