@@ -179,7 +179,10 @@ fn has_room(size: usize, end: usize) -> bool
     if size < LONGEST_ANSWER {
         return false;
     }
-    end <= size - LONGEST_ANSWER
+    if size - LONGEST_ANSWER < end {
+        return false;
+    }
+    true
 }
 
 // Takes a part of the input's bytes, and writes what they add over the front of out. It stops before

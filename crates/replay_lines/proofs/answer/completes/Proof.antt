@@ -1,15 +1,16 @@
+-- The code's tests are the definition's.
+use borrow.Author.Tests.{eq-eqb, ne-eqb}
+use Rattle.replay_lines.specs.Answer.{completes}
 use Rattle.replay_lines.proofs.answer.completes.Statement.{statement}
 use Rattle.replay_lines.proofs.answer.completes.Tie as tie
-use Rattle.replay_lines.proofs.answer.completes.Reads as reads
-use Rattle.replay_lines.proofs.answer.completes.Lts as lts
 
--- src/answer.rt:27:9
 returns : tie.Need-returns
-returns c = ?
+unfolding completes
+returns c = rw (ne-eqb _ _ (c .if1 .taken))
 
--- src/answer.rt:23:1
 returns-2 : tie.Need-returns-2
-returns-2 c = ?
+unfolding completes
+returns-2 c = rw (eq-eqb _ _ (c .before .before .if1 .left))
 
 pub completes-spec : {M : Type 1} → statement M
 completes-spec = tie.close (tie.spec returns returns-2)

@@ -1,44 +1,45 @@
+-- The tick's line, then the poll's where the definition has one.
+use borrow.Author.Tests.{not-true, not-false}
+use Rattle.replay_lines.proofs.ReplayLaws.{append-nil}
+use Rattle.text.proofs.PutLaws.{put-then}
+use mathlib.Core.Path.{sym}
+use Rattle.replay_lines.specs.Answer.{answerText}
 use borrow.Author.Needs.{needs}
 use Rattle.replay_lines.proofs.answer.put_answer.Statement.{statement}
 use Rattle.replay_lines.proofs.answer.put_answer.Tie as tie
-use Rattle.replay_lines.proofs.answer.put_answer.Reads as reads
-use Rattle.replay_lines.proofs.answer.put_answer.Lts as lts
-use Rattle.replay_lines.proofs.answer.completes.Reads as completes-reads
-use Rattle.replay_lines.proofs.answer.put_poll.Reads as put-poll-reads
-use Rattle.site.proofs.shape_of.Reads as shape-of-reads
-use Rattle.tick_text.proofs.put_tick.Reads as put-tick-reads
 
--- src/answer.rt:36:52
 shape-of-requires : tie.Need-shape-of-requires
 shape-of-requires c κs = search needs
 
--- src/answer.rt:36:9
 put-tick-requires : tie.Need-put-tick-requires
 put-tick-requires c κs = search needs
 
--- src/answer.rt:37:9
 completes-requires : tie.Need-completes-requires
 completes-requires c κs = search needs
 
--- src/answer.rt:38:9
 same-length : tie.Need-same-length
 same-length c = search needs
 
--- src/answer.rt:38:9
 returns : tie.Need-returns
-returns c = ?
+unfolding answerText
+returns c =
+    let p = c .before .before .before .before in
+    rw (← c .before .completes .ensures, not-true (c .before .completes .result) (c .if1 .taken), append-nil) (rw (p .before .shape-of .ensures) at (p .put-tick .ensures))
 
--- src/answer.rt:41:5
 put-poll-requires : tie.Need-put-poll-requires
 put-poll-requires c κs = search needs
 
--- src/answer.rt:33:1
 same-length-2 : tie.Need-same-length-2
 same-length-2 c = search needs
 
--- src/answer.rt:33:1
 returns-2 : tie.Need-returns-2
-returns-2 c = ?
+unfolding answerText
+returns-2 c =
+    let q = c .before .before in
+    let d = q .before .before .before in
+    let p = d .before .before .before .before in
+    rw (← d .before .completes .ensures, not-false (d .before .completes .result) (d .if1 .left))
+    (put-then (search needs) (rw (p .before .shape-of .ensures) at (p .put-tick .ensures)) (λ _. q .put-poll .ensures))
 
 pub put-answer-spec : {M : Type 1} → statement M
 put-answer-spec =

@@ -1,42 +1,42 @@
+-- The four parts.
+use Rattle.text.proofs.PutLaws.{put-then}
+use Rattle.replay_lines.specs.NoTick.{countText}
 use borrow.Author.Needs.{needs}
 use Rattle.replay_lines.proofs.no_tick.put_count.Statement.{statement}
 use Rattle.replay_lines.proofs.no_tick.put_count.Tie as tie
-use Rattle.replay_lines.proofs.no_tick.put_count.Reads as reads
-use Rattle.replay_lines.proofs.no_tick.put_count.Lts as lts
-use Rattle.text.proofs.put_bytes.Reads as put-bytes-reads
-use Rattle.text.proofs.put_decimal.Reads as put-decimal-reads
 
--- src/no_tick.rt:38:9
 put-decimal-requires : tie.Need-put-decimal-requires
 put-decimal-requires c κs = search needs
 
--- src/no_tick.rt:39:37
 slice-aggregate-put-bytes : tie.Need-slice-aggregate-put-bytes
 slice-aggregate-put-bytes c = search needs
 
--- src/no_tick.rt:39:9
 put-bytes-requires : tie.Need-put-bytes-requires
 put-bytes-requires c κs = search needs
 
--- src/no_tick.rt:40:9
 put-decimal-requires-2 : tie.Need-put-decimal-requires-2
 put-decimal-requires-2 c κs = search needs
 
--- src/no_tick.rt:41:29
 slice-aggregate-put-bytes-2 : tie.Need-slice-aggregate-put-bytes-2
 slice-aggregate-put-bytes-2 c = search needs
 
--- src/no_tick.rt:41:5
 put-bytes-requires-2 : tie.Need-put-bytes-requires-2
 put-bytes-requires-2 c κs = search needs
 
--- src/no_tick.rt:35:1
 same-length : tie.Need-same-length
 same-length c = search needs
 
--- src/no_tick.rt:35:1
 returns : tie.Need-returns
-returns c = ?
+unfolding countText
+returns c =
+    let p4 = c .before .before in
+    let p3 = p4 .before .before .before .before .before in
+    let p2 = p3 .before .before .before .before in
+    let p1 = p2 .before .before .before .before .before in
+    put-then (search needs) (p1 .put-decimal .ensures)
+    (λ l. put-then l (p2 .put-bytes .ensures)
+    (λ l. put-then l (p3 .put-decimal2 .ensures)
+    (λ _. p4 .put-bytes2 .ensures)))
 
 pub put-count-spec : {M : Type 1} → statement M
 put-count-spec =

@@ -1,30 +1,29 @@
+-- The two parts.
+use Rattle.text.proofs.PutLaws.{put-then}
+use Rattle.replay_lines.specs.NoTick.{emptyText}
 use borrow.Author.Needs.{needs}
 use Rattle.replay_lines.proofs.no_tick.put_empty.Statement.{statement}
 use Rattle.replay_lines.proofs.no_tick.put_empty.Tie as tie
-use Rattle.replay_lines.proofs.no_tick.put_empty.Reads as reads
-use Rattle.replay_lines.proofs.no_tick.put_empty.Lts as lts
-use Rattle.replay_lines.proofs.no_tick.put_word.Reads as put-word-reads
-use Rattle.text.proofs.put_bytes.Reads as put-bytes-reads
 
--- src/no_tick.rt:31:9
 put-word-requires : tie.Need-put-word-requires
 put-word-requires c κs = search needs
 
--- src/no_tick.rt:32:29
 slice-aggregate-put-bytes : tie.Need-slice-aggregate-put-bytes
 slice-aggregate-put-bytes c = search needs
 
--- src/no_tick.rt:32:5
 put-bytes-requires : tie.Need-put-bytes-requires
 put-bytes-requires c κs = search needs
 
--- src/no_tick.rt:28:1
 same-length : tie.Need-same-length
 same-length c = search needs
 
--- src/no_tick.rt:28:1
 returns : tie.Need-returns
-returns c = ?
+unfolding emptyText
+returns c =
+    let p2 = c .before .before in
+    let p1 = p2 .before .before .before .before .before in
+    put-then (search needs) (p1 .put-word .ensures)
+    (λ _. p2 .put-bytes .ensures)
 
 pub put-empty-spec : {M : Type 1} → statement M
 put-empty-spec =

@@ -1,48 +1,47 @@
+-- The five parts of the line.
+use Rattle.text.proofs.PutLaws.{put-then}
+use Rattle.replay_lines.specs.NoTick.{noTickLine}
 use borrow.Author.Needs.{needs}
 use Rattle.replay_lines.proofs.no_tick.put_no_tick.Statement.{statement}
 use Rattle.replay_lines.proofs.no_tick.put_no_tick.Tie as tie
-use Rattle.replay_lines.proofs.no_tick.put_no_tick.Reads as reads
-use Rattle.replay_lines.proofs.no_tick.put_no_tick.Lts as lts
-use Rattle.replay_lines.proofs.no_tick.put_reason.Reads as put-reason-reads
-use Rattle.text.proofs.put_byte.Reads as put-byte-reads
-use Rattle.text.proofs.put_bytes.Reads as put-bytes-reads
-use Rattle.text.proofs.put_decimal.Reads as put-decimal-reads
 
--- src/no_tick.rt:60:38
 slice-aggregate-put-bytes : tie.Need-slice-aggregate-put-bytes
 slice-aggregate-put-bytes c = search needs
 
--- src/no_tick.rt:60:9
 put-bytes-requires : tie.Need-put-bytes-requires
 put-bytes-requires c κs = search needs
 
--- src/no_tick.rt:61:9
 put-decimal-requires : tie.Need-put-decimal-requires
 put-decimal-requires c κs = search needs
 
--- src/no_tick.rt:62:37
 slice-aggregate-put-bytes-2 : tie.Need-slice-aggregate-put-bytes-2
 slice-aggregate-put-bytes-2 c = search needs
 
--- src/no_tick.rt:62:9
 put-bytes-requires-2 : tie.Need-put-bytes-requires-2
 put-bytes-requires-2 c κs = search needs
 
--- src/no_tick.rt:63:9
 put-reason-requires : tie.Need-put-reason-requires
 put-reason-requires c κs = search needs
 
--- src/no_tick.rt:64:5
 put-byte-requires : tie.Need-put-byte-requires
 put-byte-requires c κs = search needs
 
--- src/no_tick.rt:57:1
 same-length : tie.Need-same-length
 same-length c = search needs
 
--- src/no_tick.rt:57:1
 returns : tie.Need-returns
-returns c = ?
+unfolding noTickLine
+returns c =
+    let p5 = c .before .before in
+    let p4 = p5 .before .before .before .before in
+    let p3 = p4 .before .before .before .before in
+    let p2 = p3 .before .before .before .before .before in
+    let p1 = p2 .before .before .before .before in
+    put-then (search needs) (p1 .put-bytes .ensures)
+    (λ l. put-then l (p2 .put-decimal .ensures)
+    (λ l. put-then l (p3 .put-bytes2 .ensures)
+    (λ l. put-then l (p4 .put-reason .ensures)
+    (λ _. p5 .put-byte .ensures))))
 
 pub put-no-tick-spec : {M : Type 1} → statement M
 put-no-tick-spec =

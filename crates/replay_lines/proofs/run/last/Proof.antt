@@ -1,30 +1,25 @@
+-- The code's tests are the definition's.
+use borrow.Author.Tests.{not-true, not-false}
+use mathlib.Core.Path.{sym, _∙_}
+use Rattle.replay_lines.proofs.ReplayLaws.{last-ended, last-between, last-begun}
 use borrow.Author.Needs.{needs}
 use Rattle.replay_lines.proofs.run.last.Statement.{statement}
 use Rattle.replay_lines.proofs.run.last.Tie as tie
-use Rattle.replay_lines.proofs.run.last.Reads as reads
-use Rattle.replay_lines.proofs.run.last.Lts as lts
-use Rattle.replay_lines.proofs.run.after_line.Reads as after-line-reads
-use Rattle.replay_lines.proofs.run.line_of.Reads as line-of-reads
 
--- src/run.rt:259:9
 returns : tie.Need-returns
-returns c = ?
+returns c = sym (last-ended _ _ (c .if1 .taken) .1)
 
--- src/run.rt:262:9
 returns-2 : tie.Need-returns-2
-returns-2 c = ?
+returns-2 c = sym (last-between _ _ (c .before .before .if1 .left) (not-true _ (c .if2 .taken)) .1)
 
--- src/run.rt:264:21
 line-of-requires : tie.Need-line-of-requires
 line-of-requires c κs = search needs
 
--- src/run.rt:264:5
 after-line-requires : tie.Need-after-line-requires
 after-line-requires c κs = search needs
 
--- src/run.rt:255:1
 returns-3 : tie.Need-returns-3
-returns-3 c = ?
+returns-3 c = rw (← c .before .line-of .ensures) (c .after-line .ensures) ∙ sym (last-begun _ _ (c .before .before .before .before .if1 .left) (not-false _ (c .before .before .if2 .left)) .1)
 
 pub last-spec : {M : Type 1} → statement M
 last-spec = tie.close (tie.spec returns returns-2 line-of-requires after-line-requires returns-3)

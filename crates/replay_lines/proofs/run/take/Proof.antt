@@ -1,112 +1,154 @@
+-- The loop's invariant: the run and the output are those of the bytes so far, and no line has been no tick.
+use Prim.Native.Nat.{_+_, _-_, _^_, _≤_, _<_}
+use mathlib.Core.Path.{_≡_, refl, sym, ap}
+use mathlib.Core.Bool.{false}
+use mathlib.Core.List.{[]}
+use lib.ListN.{length, getD}
+use native.Mathlib.Omega.{arith}
+use borrow.Author.Needs.{needs}
+use borrow.Author.Tests.{not-true, not-false}
+use Rattle.tick_line.specs.Scan.{lineStart}
+use denote.Ref.{now}
+use mir.Val.{Fits}
+use mir.Syntax.{w64}
+use Rattle.text.specs.Put.{farthest}
+use Rattle.replay_lines.specs.Replay.{withScan, lineOf, afterLine}
+use Rattle.replay_lines.proofs.ReplayLaws.{Reached, reached-start, reached-in, reached-line, reached-same, reached-end, fresh-line}
 use Rattle.replay_lines.proofs.run.take.Statement.{statement}
 use Rattle.replay_lines.proofs.run.take.Tie as tie
-use Rattle.replay_lines.proofs.run.take.Reads as reads
-use Rattle.replay_lines.proofs.run.take.Lts as lts
-use Rattle.replay_lines.proofs.run.after_line.Reads as after-line-reads
-use Rattle.replay_lines.proofs.run.has_room.Reads as has-room-reads
-use Rattle.replay_lines.proofs.run.line_of.Reads as line-of-reads
-use Rattle.replay_lines.proofs.run.put_line.Reads as put-line-reads
-use Rattle.replay_lines.proofs.run.with_scan.Reads as with-scan-reads
-use Rattle.tick_line.proofs.after_byte.Reads as after-byte-reads
-use Rattle.tick_line.proofs.line_start.Reads as line-start-reads
 
 abbrev Inv-loop : tie.InvT-loop
-Inv-loop site bytes out₀ run₀ scan₀ begun₀ end₀ at₀ out run scan begun end at = ?
+Inv-loop site bytes out₀ run₀ scan₀ begun₀ end₀ at₀ out run scan begun end at =
+    (at ≤ length bytes)
+    × (run .ended ≡ false)
+    × (length out ≡ length out₀)
+    × Reached site run₀ bytes out₀ at (withScan run scan begun) end out
 
 abbrev μ-loop : tie.MeasureT-loop
-μ-loop site bytes out₀ run₀ scan₀ begun₀ end₀ at₀ out run scan begun end at = ?
+μ-loop site bytes out₀ run₀ scan₀ begun₀ end₀ at₀ out run scan begun end at = length bytes - at
 
--- src/run.rt:193:9
+-- Before a byte is taken.
+below : (c : tie.After-shared-slice-known2 Inv-loop μ-loop) → c .before .before .loop .at < length (now (c .before .before .before .before .before .before .before .args .bytes))
+below c = search needs
+
+fits-word : (c : tie.After-shared-slice-known2 Inv-loop μ-loop) → Fits w64 (c .before .before .loop .at + 1)
+fits-word c = search needs
+
+short : (c : tie.After-shared-slice-known2 Inv-loop μ-loop) → length (now (c .before .before .before .before .before .before .before .args .out)) < farthest
+short c = search needs
+
+-- Behind a line.
+module _ (c : tie.After-after-line Inv-loop μ-loop) where
+  abbrev after : tie.After-shared-slice-known2 Inv-loop μ-loop
+  after = c .before .before .before .before .before .before .before .before .before .before
+
+  same-room : length (c .before .before .before .put-line .last .0) ≡ length (now (after .before .before .before .before .before .before .before .args .out))
+  same-room = rw (c .before .before .before .put-line .kept .0) (after .before .before .loop .inv .2)
+
+  behind-line : Reached (after .before .before .before .before .before .before .before .args .site) (after .before .before .before .before .before .before .before .args .first)
+      (now (after .before .before .before .before .before .before .before .args .bytes)) (now (after .before .before .before .before .before .before .before .args .out))
+      (after .before .before .loop .at + 1) (c .after-line .result) (c .before .before .before .put-line .result) (c .before .before .before .put-line .last .0)
+  unfolding withScan
+  behind-line =
+      let p = c .before .before .before in
+      let w = after .before .before in
+      let a = after .before .before .before .before .before .before .before .args in
+      let l = p .before .before in
+      let f = l .before .before .before in
+      reached-same (a .site) (rw (l .line-of .ensures, f .with-scan .ensures) at (c .after-line .ensures))
+      (reached-line (a .site) (w .loop .inv .3) (below after) (w .loop .inv .1) (f .before .if2 .left) (short after) (rw (l .line-of .ensures, f .with-scan .ensures) at (p .put-line .ensures)))
+
+  line-begins : withScan (c .after-line .result) lineStart false ≡ c .after-line .result
+  line-begins = rw (c .after-line .ensures) (fresh-line _ _)
+
 returns : tie.Need-returns Inv-loop μ-loop
-returns c = ?
+returns c = let a = c .before .before .before .args in let r = reached-end (a .site) (reached-start (a .site) (a .first) (now (a .bytes)) (now (a .out))) (c .if1 .taken) in (r .is, (r .adds, search needs))
 
--- src/run.rt:204:5
 loop-holds : tie.Need-loop-holds Inv-loop μ-loop
-loop-holds c = ?
+unfolding withScan
+loop-holds c = (search needs, c .before .if1 .left, search needs, reached-start _ _ _ _)
 
--- src/run.rt:205:17
 shared-slice-read-b : tie.Need-shared-slice-read-b Inv-loop μ-loop
-shared-slice-read-b c = ?
+shared-slice-read-b c = search needs
 
--- src/run.rt:207:13
 after-byte-requires : tie.Need-after-byte-requires Inv-loop μ-loop
-after-byte-requires c κs = ?
+after-byte-requires c κs = search needs
 
--- src/run.rt:209:13
 add-at : tie.Need-add-at Inv-loop μ-loop
-add-at c = ?
+add-at c = search needs
 
--- src/run.rt:204:5
 loop-less : tie.Need-loop-less Inv-loop μ-loop
-loop-less c = ?
+loop-less c = search needs
 
--- src/run.rt:204:5
 loop-again : tie.Need-loop-again Inv-loop μ-loop
-loop-again c = ?
+unfolding withScan
+loop-again c =
+    let t = c .before in
+    let h = t .before .before .before in
+    let a = h .before .before .before .before .before .args in
+    let next = reached-in (a .site) (h .loop .inv .3) (search needs) (h .loop .inv .1) (t .if2 .taken) in
+    (search needs, h .loop .inv .1, search needs, rw (c .after-byte .ensures) next)
 
--- src/run.rt:212:13
 with-scan-requires : tie.Need-with-scan-requires Inv-loop μ-loop
-with-scan-requires c κs = ?
+with-scan-requires c κs = search needs
 
--- src/run.rt:213:13
 has-room-requires : tie.Need-has-room-requires Inv-loop μ-loop
-has-room-requires c κs = ?
+has-room-requires c κs = search needs
 
--- src/run.rt:214:13
 same-length : tie.Need-same-length Inv-loop μ-loop
-same-length c = ?
+same-length c = search needs
 
--- src/run.rt:214:13
 returns-2 : tie.Need-returns-2 Inv-loop μ-loop
-returns-2 c = ?
+returns-2 c =
+    let w = c .before .before in
+    let h = w .before .before .before .before in
+    let r = rw (← w .with-scan .ensures) at (h .loop .inv .3) in
+    (r .is, (r .adds, search needs))
 
--- src/run.rt:220:13
 line-of-requires : tie.Need-line-of-requires Inv-loop μ-loop
-line-of-requires c κs = ?
+line-of-requires c κs = search needs
 
--- src/run.rt:221:9
 put-line-requires : tie.Need-put-line-requires Inv-loop μ-loop
-put-line-requires c κs = ?
+put-line-requires c κs = search needs
 
--- src/run.rt:222:9
 after-line-requires : tie.Need-after-line-requires Inv-loop μ-loop
-after-line-requires c κs = ?
+after-line-requires c κs = search needs
 
--- src/run.rt:224:13
 same-length-2 : tie.Need-same-length-2 Inv-loop μ-loop
-same-length-2 c = ?
+same-length-2 c = same-room (c .before)
 
--- src/run.rt:224:13
 returns-3 : tie.Need-returns-3 Inv-loop μ-loop
-returns-3 c = ?
+returns-3 c = let r = reached-end _ (behind-line (c .before)) (c .if4 .taken) in (r .is, (r .adds, search needs))
 
--- src/run.rt:230:9
 line-start-requires : tie.Need-line-start-requires Inv-loop μ-loop
-line-start-requires c κs = ?
+line-start-requires c κs = search needs
 
--- src/run.rt:232:9
 add-at-2 : tie.Need-add-at-2 Inv-loop μ-loop
-add-at-2 c = ?
+add-at-2 c = fits-word (c .before .before .before .before .before .before .before .before .before .before .before .before)
 
--- src/run.rt:204:5
 loop-less-2 : tie.Need-loop-less-2 Inv-loop μ-loop
-loop-less-2 c = ?
+loop-less-2 c = omega (arith, below (c .before .before .before .before .before .before .before .before .before .before .before .before))
 
--- src/run.rt:204:5
 loop-again-2 : tie.Need-loop-again-2 Inv-loop μ-loop
-loop-again-2 c = ?
+loop-again-2 c =
+    let l = c .before .before in (
+      omega (arith, below (after l)),
+      c .before .if4 .left,
+      same-room l,
+      reached-same _ (rw (c .line-start .ensures) (line-begins l)) (behind-line l),
+    )
 
--- src/run.rt:235:14
 with-scan-requires-2 : tie.Need-with-scan-requires-2 Inv-loop μ-loop
-with-scan-requires-2 c κs = ?
+with-scan-requires-2 c κs = search needs
 
--- src/run.rt:187:1
 same-length-3 : tie.Need-same-length-3 Inv-loop μ-loop
-same-length-3 c = ?
+same-length-3 c = search needs
 
--- src/run.rt:187:1
 returns-4 : tie.Need-returns-4 Inv-loop μ-loop
-returns-4 c = ?
+returns-4 c =
+    let h = c .before .before in
+    let r = rw (← c .with-scan2 .ensures) at (h .loop .inv .3) in
+    (r .is, (r .adds, search needs))
 
 pub take-spec : {M : Type 1} → statement M
 take-spec =

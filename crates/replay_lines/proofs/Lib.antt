@@ -1,0 +1,2 @@
+pub mod PollLaws
+pub mod ReplayLaws
