@@ -14,6 +14,10 @@ tradeWord refusal =
     item (ascii ",short file,wrong count,bad timing,bad entry,bad holiday,bad level,long file,bad clock,bad sample,bad command,small buffer,no period,spoilt state,spoilt site")
     refusal
 
+-- How a line begins that says what is wrong: `bad entry: `.
+unfoldable pub openingText : ℕ → List ℕ
+openingText refusal = tradeWord refusal ++ ascii ": "
+
 -- `LOW-HIGH`; where both are the same number, that number alone.
 unfoldable pub rangeText : ℕ → ℕ → List ℕ
 rangeText low high = cond (eqb low high) (decimal low) (decimal low ++ (ascii "-" ++ decimal high))

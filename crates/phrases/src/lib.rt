@@ -4,7 +4,7 @@ mod wrong;
 
 pub use wrong::put_allowed;
 pub use wrong::put_not_allowed;
-pub use wrong::put_trade_word;
+pub use wrong::put_opening;
 ghost use Rattle.text.specs.Put.{Put};
 ghost use Rattle.phrases.specs.Phrases.{dayName, blankAndDecimal, refusalLine};
 

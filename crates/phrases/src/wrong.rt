@@ -1,9 +1,9 @@
 // What is said of a number that is not allowed, and what is wrong in the trade's words.
 ghost use Rattle.text.specs.Put.{Put};
-ghost use Rattle.phrases.specs.Wrong.{tradeWord, rangeText, allowedText, notAllowedText};
+ghost use Rattle.phrases.specs.Wrong.{tradeWord, openingText, rangeText, allowedText, notAllowedText};
 
 // The trade word of a refusal, 1 to 14.
-pub fn put_trade_word(out: &mut [u8], at: usize, refusal: u8) -> usize
+fn put_trade_word(out: &mut [u8], at: usize, refusal: u8) -> usize
     ensures { λ r. ⌜ Put (now (out .entry)) at (tradeWord refusal) r (now (out .exit)) ⌝ }
 {
     text::put_item(
@@ -12,6 +12,14 @@ pub fn put_trade_word(out: &mut [u8], at: usize, refusal: u8) -> usize
         b",short file,wrong count,bad timing,bad entry,bad holiday,bad level,long file,bad clock,bad sample,bad command,small buffer,no period,spoilt state,spoilt site",
         refusal as usize,
     )
+}
+
+// How a line begins that says what is wrong.
+pub fn put_opening(out: &mut [u8], at: usize, refusal: u8) -> usize
+    ensures { λ r. ⌜ Put (now (out .entry)) at (openingText refusal) r (now (out .exit)) ⌝ }
+{
+    let p = put_trade_word(out, at, refusal);
+    text::put_bytes(out, p, b": ")
 }
 
 fn put_range(out: &mut [u8], at: usize, low: u64, high: u64) -> usize

@@ -15,7 +15,7 @@ use Rattle.numbers.proofs.WithinLaws.{ends}
 use Rattle.ranges.specs.declared.Section.{Section}
 use Rattle.ranges.specs.declared.Section.the-variants.{Timings, Entries, Holidays, Levels}
 use Rattle.ranges.specs.Ranges.{rates, unused, rateRange}
-use Rattle.ranges.specs.Sections.{greatestOf, allowedOf, countsOf, rangeOf, mayBeUnused, isGood, firstBad}
+use Rattle.ranges.specs.Sections.{greatestOf, allowedOf, countsOf, rowOf, rangeOf, mayBeUnused, isGood, firstBad}
 
 -- The numbers before the first that is not allowed are allowed.
 good-before : (k : Section) (v : List ℕ) (i n j : ℕ) (b : Bool) → isGood k v i ≡ b → i ≤ j → j < firstBad k v i n → isGood k v j ≡ true
@@ -25,6 +25,15 @@ good-before k v i (suc n) j true e l h =
     ⊎-elim (λ (q : i ≡ j). subst (λ (x : ℕ). isGood k v x ≡ true) q e)
     (λ (q : i < j). good-before k v (i + 1) n j _ refl (omega arith) (rw e at h))
     (eq-or-lt-of-le l)
+
+-- It is none beyond those that were looked through.
+bad-case : (k : Section) (v : List ℕ) (i n : ℕ) (b : Bool) → isGood k v i ≡ b → firstBad k v i n ≤ i + n
+bad-case k v i zero b e = omega arith
+bad-case k v i (suc n) false e = rw e (omega arith)
+bad-case k v i (suc n) true e = rw e (omega (arith, bad-case k v (i + 1) n _ refl))
+
+pub bad-within : (k : Section) (v : List ℕ) (n : ℕ) → firstBad k v 0 n ≤ n
+bad-within k v n = omega (arith, bad-case k v 0 n _ refl)
 
 used : (k : Section) (v : List ℕ) (j : ℕ) (a : Bool) → eqb (getD v j 0) unused ≡ a → mayBeUnused k j ≡ false → isGood k v j ≡ true
     → isWithin (rangeOf k v j) (getD v j 0) ≡ true
@@ -64,3 +73,10 @@ counts-allowed Timings n = only (greatestOf Timings) n
 counts-allowed Entries n = up-to (greatestOf Entries) n
 counts-allowed Holidays n = up-to (greatestOf Holidays) n
 counts-allowed Levels n = up-to (greatestOf Levels) n
+
+-- There are no more rows than numbers.
+pub row-most : (k : Section) (i : ℕ) → rowOf k i ≤ i
+row-most Timings i = omega arith
+row-most Entries i = omega arith
+row-most Holidays i = omega arith
+row-most Levels i = omega arith
