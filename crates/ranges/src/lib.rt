@@ -4,7 +4,7 @@ mod range;
 
 use numbers::Range;
 ghost use mathlib.Core.Path.{_≡_};
-ghost use Prim.Native.Nat.{ℕ, _+_, _<_};
+ghost use Prim.Native.Nat.{ℕ, _+_};
 ghost use lib.ListN.{length, getD};
 ghost use Rattle.numbers.specs.Within.{isWithin};
 ghost use Rattle.ranges.specs.Sections.{allowedOf, countsOf, sizeOf, rowOf, badNumberOf, rangeOf, mayBeUnused, isGood, firstBad, zeros};
@@ -172,7 +172,6 @@ pub fn may_be_unused(section: Section, i: usize) -> bool
 
 // Whether number i of a section's numbers is one that the paper allows.
 fn is_good(section: Section, v: &[u16], i: usize) -> bool
-    requires { ⌜ i < length (now v) ⌝ }
     ensures { λ r. ⌜ r ≡ isGood section (now (v .entry)) i ⌝ }
 {
     let x = numbers::number_at(v, i);

@@ -9,6 +9,7 @@ use Rattle.text.specs.Decimal.{decimal}
 use Rattle.phrases.specs.Wrong.{allowedText, notAllowedText}
 use Rattle.numbers.specs.declared.Range.{Range}
 use Rattle.ranges.specs.declared.Section.{Section}
+use Rattle.ranges.specs.Ranges.{unused}
 use Rattle.ranges.specs.Sections.{countsOf, rangeOf, mayBeUnused, firstBad}
 use Rattle.site.specs.Reading.{numbersOf}
 use Rattle.site_diagnosis.specs.Names.{rowsText, numberText}
@@ -24,9 +25,9 @@ missingText k ws q =
 unfoldable pub countText : Section → ℕ → List ℕ
 countText k n = decimal n ++ (ascii " " ++ (rowsText k ++ allowedText (countsOf k .low) (countsOf k .high)))
 
--- A number that may be unused is allowed to be 65535 too.
+-- In a level's flow, occupancy and speed ` or 65535` follows.
 unfoldable pub unusedText : Section → ℕ → List ℕ
-unusedText k i = cond (mayBeUnused k i) (ascii " or 65535") []
+unusedText k i = cond (mayBeUnused k i) (ascii " or " ++ decimal unused) []
 
 -- Number i of a section's numbers v with the range that it is not in: `level 2, flow 0, allowed 1-3000 or 65535`.
 unfoldable pub outOfRangeText : Section → List ℕ → ℕ → List ℕ

@@ -41,7 +41,8 @@ fn put_unused(out: &mut [u8], at: usize, section: Section, i: usize) -> usize
     ensures { λ r. ⌜ Put (now (out .entry)) at (unusedText section i) r (now (out .exit)) ⌝ }
 {
     if ranges::may_be_unused(section, i) {
-        return text::put_bytes(out, at, b" or 65535");
+        let p = text::put_bytes(out, at, b" or ");
+        return text::put_decimal(out, p, ranges::UNUSED as u64);
     }
     at
 }
@@ -66,7 +67,7 @@ fn put_bad_number(out: &mut [u8], at: usize, section: Section, v: &[u16]) -> usi
 }
 
 // The same of a section that is whole in the file. Its numbers are put over the front of v.
-fn put_bad_number_of(
+fn put_bad_number_in(
     out: &mut [u8],
     at: usize,
     section: Section,
@@ -101,5 +102,5 @@ pub fn put_wrong(
         return put_count(out, at, section, numbers::word(file, q));
     }
     let mut v = [0u16; ranges::MOST_LEVEL_NUMBERS];
-    put_bad_number_of(out, at, section, file, q, &mut v)
+    put_bad_number_in(out, at, section, file, q, &mut v)
 }

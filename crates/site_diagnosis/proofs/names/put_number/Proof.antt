@@ -37,10 +37,10 @@ returns c =
     let p4 = c .before .before in
     let p3 = p4 .before .before .before .before in
     let p2 = p3 .before .before .before .before .before in
-    let rowP = p2 .before in
-    let p1 = rowP .before .before .before .before in
+    let row = p2 .before in
+    let p1 = row .before .before .before .before in
     put-then (search needs) (p1 .put-row .ensures)
-    (λ l. put-then l (rw (rowP .row .ensures) at (p2 .put-blank-and-decimal .ensures))
+    (λ l. put-then l (rw (row .row .ensures) at (p2 .put-blank-and-decimal .ensures))
     (λ l. put-then l (p3 .put-bytes .ensures)
     (λ _. p4 .put-name .ensures)))
 

@@ -33,14 +33,14 @@ returns : tie.Need-returns
 unfolding countText
 returns c =
     let p4 = c .before .before in
-    let countsP = p4 .before .before .before .before in
-    let p3 = countsP .before .before .before in
+    let counts = p4 .before .before .before .before in
+    let p3 = counts .before .before .before in
     let p2 = p3 .before .before .before .before in
     let p1 = p2 .before .before .before .before in
     put-then (search needs) (p1 .put-decimal .ensures)
     (λ l. put-then l (p2 .put-byte .ensures)
     (λ l. put-then l (p3 .put-rows .ensures)
-    (λ _. rw (countsP .counts .ensures .0) at (p4 .put-allowed .ensures))))
+    (λ _. rw (counts .counts .ensures .0) at (p4 .put-allowed .ensures))))
 
 pub put-count-spec : {M : Type 1} → statement M
 put-count-spec =

@@ -44,11 +44,11 @@ unfolding outOfRangeText
 returns c =
     let p3 = c .before .before in
     let p2 = p3 .before .before .before .before in
-    let numberatP = p2 .before .before .before .before in
-    let rangeatP = numberatP .before in
-    let p1 = rangeatP .before .before .before in
+    let number = p2 .before .before .before .before in
+    let range = number .before in
+    let p1 = range .before .before .before in
     put-then (short p1) (p1 .put-number .ensures)
-    (λ l. put-then l (rw (numberatP .number-at .ensures, rangeatP .range-at .ensures) at (p2 .put-not-allowed .ensures))
+    (λ l. put-then l (rw (number .number-at .ensures, range .range-at .ensures) at (p2 .put-not-allowed .ensures))
     (λ _. p3 .put-unused .ensures))
 
 pub put-out-of-range-spec : {M : Type 1} → statement M

@@ -37,11 +37,11 @@ returns-2 c =
     let t = p .before .before .before in
     rw (ne-eqb _ _ (t .before .if1 .left), eq-eqb _ _ (t .if2 .taken), ← p .before .word .ensures) (p .put-count .ensures)
 
-slice-aggregate-put-bad-number-of : tie.Need-slice-aggregate-put-bad-number-of
-slice-aggregate-put-bad-number-of c = search needs
+slice-aggregate-put-bad-number-in : tie.Need-slice-aggregate-put-bad-number-in
+slice-aggregate-put-bad-number-in c = search needs
 
-put-bad-number-of-requires : tie.Need-put-bad-number-of-requires
-put-bad-number-of-requires c κs =
+put-bad-number-in-requires : tie.Need-put-bad-number-in-requires
+put-bad-number-in-requires c κs =
     let t = c .before .before in
     let s = t .before .before .before .before in
     let o = out-of-range (s .args .section) (length (now (s .args .file))) (words (now (s .args .file))) (s .args .q) (λ z. s .pre .1 (s .pre .0 ∙ z)) (λ z. t .before .if1 .left (s .pre .0 ∙ z)) (λ z. t .if2 .left (s .pre .0 ∙ z)) in
@@ -55,7 +55,7 @@ unfolding wrongText
 returns-3 c =
     let p = c .before .before .before in
     let t = p .before .before .before in
-    rw (ne-eqb _ _ (t .before .if1 .left), ne-eqb _ _ (t .if2 .left)) (p .put-bad-number-of .ensures)
+    rw (ne-eqb _ _ (t .before .if1 .left), ne-eqb _ _ (t .if2 .left)) (p .put-bad-number-in .ensures)
 
 pub put-wrong-spec : {M : Type 1} → statement M
 put-wrong-spec =
@@ -68,7 +68,7 @@ put-wrong-spec =
     put-count-requires
     same-length-2
     returns-2
-    slice-aggregate-put-bad-number-of
-    put-bad-number-of-requires
+    slice-aggregate-put-bad-number-in
+    put-bad-number-in-requires
     same-length-3
     returns-3)

@@ -11,8 +11,8 @@ use mathlib.Core.Path.{_≡_, ap, sym, _∙_}
 use native.Mathlib.Omega.{arith}
 use denote.Ref.{now}
 use borrow.Author.Needs.{needs}
-use Rattle.site_diagnosis.proofs.wrong.put_bad_number_of.Statement.{statement}
-use Rattle.site_diagnosis.proofs.wrong.put_bad_number_of.Tie as tie
+use Rattle.site_diagnosis.proofs.wrong.put_bad_number_in.Statement.{statement}
+use Rattle.site_diagnosis.proofs.wrong.put_bad_number_in.Tie as tie
 
 size-is : (c : tie.After-size) → let a = c .before .before .before .before .before .args in c .size .result ≡ sizeOf (a .section) (getD (words (now (a .file))) (a .q) 0)
 size-is c = c .size .ensures ∙ ap (sizeOf (c .before .before .before .before .before .args .section)) (c .before .word .ensures)
@@ -77,8 +77,8 @@ returns c =
     let a = l .before .before .before .before .before .before .before .args in
     rw (take-at (l .load .last .1 .1 .0) (drop (l .before .before .size .result) (now (a .v))) _ (loaded l .0) ∙ loaded l .1) at (p .put-bad-number .ensures)
 
-pub put-bad-number-of-spec : {M : Type 1} → statement M
-put-bad-number-of-spec =
+pub put-bad-number-in-spec : {M : Type 1} → statement M
+put-bad-number-in-spec =
     tie.close
     (tie.spec
     word-requires
