@@ -1,4 +1,10 @@
-// What both programs print: a day's name, a number behind a blank, the line of a refused site file.
+// What both programs print: a day's name, a number behind a blank, the line of a refused site file,
+// and of what is wrong its trade word and the range that was left.
+mod wrong;
+
+pub use wrong::put_allowed;
+pub use wrong::put_not_allowed;
+pub use wrong::put_opening;
 ghost use Rattle.text.specs.Put.{Put};
 ghost use Rattle.phrases.specs.Phrases.{dayName, blankAndDecimal, refusalLine};
 

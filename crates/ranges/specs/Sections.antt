@@ -1,5 +1,5 @@
 -- Document 01, 'The site file': the four sections, each described once. Reading, writing and the check for 14 go by this.
-use Prim.Native.Nat.{ℕ, zero, suc, _+_, _-_, _*_, _%_}
+use Prim.Native.Nat.{ℕ, zero, suc, _+_, _-_, _*_, _/_, _%_}
 use mathlib.Core.Bool.{Bool, true, false, cond}
 use mathlib.Core.List.{List, [], _∷_}
 use lib.Dec.{leb, eqb}
@@ -31,6 +31,13 @@ allowedOf Entries n = leb n (greatestOf Entries)
 allowedOf Holidays n = leb n (greatestOf Holidays)
 allowedOf Levels n = leb n (greatestOf Levels)
 
+-- The same as a range.
+unfoldable pub countsOf : Section → Range
+countsOf Timings = between (greatestOf Timings) (greatestOf Timings)
+countsOf Entries = between 0 (greatestOf Entries)
+countsOf Holidays = between 0 (greatestOf Holidays)
+countsOf Levels = between 0 (greatestOf Levels)
+
 -- How many numbers stand behind a count of n.
 abbrev pub sizeOf : Section → ℕ → ℕ
 sizeOf k n = n * widthOf k
@@ -46,7 +53,10 @@ badNumberOf Entries = 4
 badNumberOf Holidays = 5
 badNumberOf Levels = 6
 
--- The column of number i, from 0, and the number at which its row begins.
+-- The row of number i, and its column, both from 0, and the number at which its row begins.
+abbrev pub rowOf : Section → ℕ → ℕ
+rowOf k i = i / widthOf k
+
 abbrev pub columnOf : Section → ℕ → ℕ
 columnOf k i = i % widthOf k
 

@@ -4,9 +4,10 @@ mod range;
 
 use numbers::Range;
 ghost use mathlib.Core.Path.{_≡_};
-ghost use Prim.Native.Nat.{_<_};
-ghost use lib.ListN.{length};
-ghost use Rattle.ranges.specs.Sections.{allowedOf, sizeOf, badNumberOf, rangeOf, mayBeUnused, isGood, firstBad, zeros};
+ghost use Prim.Native.Nat.{ℕ, _+_};
+ghost use lib.ListN.{length, getD};
+ghost use Rattle.numbers.specs.Within.{isWithin};
+ghost use Rattle.ranges.specs.Sections.{allowedOf, countsOf, sizeOf, rowOf, badNumberOf, rangeOf, mayBeUnused, isGood, firstBad, zeros};
 pub use range::UNUSED;
 pub use range::rate_range;
 pub use range::table_range;
@@ -65,6 +66,31 @@ pub fn allowed(section: Section, count: u16) -> bool
     }
 }
 
+// The counts that a section may have.
+pub fn counts(section: Section) -> Range
+    ensures is { λ r. ⌜ r ≡ countsOf section ⌝ }
+    ensures allowed { λ r. ⌜ ((n : ℕ) → isWithin r n ≡ allowedOf section n) ⌝ }
+{
+    match section {
+        Section::Timings => Range {
+            low: TIMINGS,
+            high: TIMINGS,
+        },
+        Section::Entries => Range {
+            low: 0,
+            high: MOST_ENTRIES,
+        },
+        Section::Holidays => Range {
+            low: 0,
+            high: MOST_HOLIDAYS,
+        },
+        Section::Levels => Range {
+            low: 0,
+            high: MOST_LEVELS,
+        },
+    }
+}
+
 // How many numbers stand behind a count.
 pub fn size(section: Section, count: u16) -> usize
     ensures { λ r. ⌜ r ≡ sizeOf section count ⌝ }
@@ -75,6 +101,18 @@ pub fn size(section: Section, count: u16) -> usize
         Section::Entries => n * ENTRY_WIDTH,
         Section::Holidays => n * HOLIDAY_WIDTH,
         Section::Levels => n * LEVEL_WIDTH,
+    }
+}
+
+// The row of number i, from 0.
+pub fn row(section: Section, i: usize) -> usize
+    ensures { λ r. ⌜ r ≡ rowOf section i ⌝ }
+{
+    match section {
+        Section::Timings => i,
+        Section::Entries => i / ENTRY_WIDTH,
+        Section::Holidays => i / HOLIDAY_WIDTH,
+        Section::Levels => i / LEVEL_WIDTH,
     }
 }
 
@@ -90,8 +128,18 @@ pub fn bad_number(section: Section) -> u8
     }
 }
 
-fn range_at(section: Section, v: &[u16], i: usize) -> Range
-    requires { ⌜ i < length (now v) ⌝ }
+// Number j of the row that begins at number i, or 0 beyond the end.
+fn in_row(v: &[u16], i: usize, j: usize) -> u16
+    ensures { λ r. ⌜ r ≡ getD (now (v .entry)) (i + j) 0 ⌝ }
+{
+    if v.len() <= i {
+        return 0;
+    }
+    numbers::number_at(&v[i..], j)
+}
+
+// The range of number i of a section's numbers, given those to its left.
+pub fn range_at(section: Section, v: &[u16], i: usize) -> Range
     ensures { λ r. ⌜ r ≡ rangeOf section (now (v .entry)) i ⌝ }
 {
     match section {
@@ -99,22 +147,19 @@ fn range_at(section: Section, v: &[u16], i: usize) -> Range
         Section::Entries => {
             let column = i % ENTRY_WIDTH;
             let row = i - column;
-            range::entry_range(numbers::number_at(v, row + 2), column)
+            range::entry_range(in_row(v, row, 2), column)
         }
         Section::Holidays => {
             let column = i % HOLIDAY_WIDTH;
             let row = i - column;
-            range::holiday_range(
-                numbers::number_at(v, row),
-                numbers::number_at(v, row + 1),
-                column,
-            )
+            range::holiday_range(numbers::number_at(v, row), in_row(v, row, 1), column)
         }
         Section::Levels => range::level_range(i % LEVEL_WIDTH),
     }
 }
 
-fn may_be_unused(section: Section, i: usize) -> bool
+// Whether number i may be unused.
+pub fn may_be_unused(section: Section, i: usize) -> bool
     ensures { λ r. ⌜ r ≡ mayBeUnused section i ⌝ }
 {
     match section {
@@ -127,7 +172,6 @@ fn may_be_unused(section: Section, i: usize) -> bool
 
 // Whether number i of a section's numbers is one that the paper allows.
 fn is_good(section: Section, v: &[u16], i: usize) -> bool
-    requires { ⌜ i < length (now v) ⌝ }
     ensures { λ r. ⌜ r ≡ isGood section (now (v .entry)) i ⌝ }
 {
     let x = numbers::number_at(v, i);

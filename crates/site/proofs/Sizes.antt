@@ -1,4 +1,4 @@
--- The lengths of a record's arrays, and that a section with an allowed count has no more numbers than its array.
+-- The lengths of a record's arrays, and that a section with an allowed count has no more numbers than its array, or than the levels'.
 use Prim.Native.Nat.{ℕ, _≤_}
 use mathlib.Core.Path.{_≡_}
 use mathlib.Core.Bool.{true}
@@ -15,6 +15,13 @@ fits Timings n e = omega (arith, eqb-true n 15 e)
 fits Entries n e = omega (arith, leb-true n 16 e)
 fits Holidays n e = omega (arith, leb-true n 16 e)
 fits Levels n e = omega (arith, leb-true n 24 e)
+
+-- No section can have more numbers than the levels.
+pub no-longer : (k : Section) → mostOf k ≤ mostOf Levels
+no-longer Timings = omega arith
+no-longer Entries = omega arith
+no-longer Holidays = omega arith
+no-longer Levels = omega arith
 
 pub record Sized (x : Site) : Type 0 where
   pub timings : length (x .timings) ≡ 15

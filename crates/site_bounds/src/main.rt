@@ -1,7 +1,8 @@
 // Reads site files from standard input, each behind its length in two bytes, and prints of each why
-// it is refused and where, or that it is accepted and whether it is rewritten byte for byte. Then
-// come the answers of `write`, where it is accepted, and of `print`: in a buffer with much room, in
-// one that just holds what is written, and in one that is a byte shorter.
+// it is refused and where, and what is wrong with it in words, or that it is accepted and whether it
+// is rewritten byte for byte. Then come the answers of `write`, where it is accepted, and of
+// `print`: in a buffer with much room, in one that just holds what is written, and in one that is a
+// byte shorter.
 use libc::STDOUT_FILENO;
 use output::Written;
 use site::Site;
@@ -90,10 +91,17 @@ fn print_rewritten(site: Site, file: &[u8]) {
     }
 }
 
+fn print_diagnosis(file: &[u8]) {
+    let mut line = io::buffer();
+    let end = site_diagnosis::put_diagnosis(&mut line, 0, b"site.bin", file);
+    test_output::print(&line, end);
+}
+
 fn answer(file: &[u8]) {
     let read = site_reader::read(file);
     if read.refusal != 0 {
         test_output::print_refusal(read.refusal, read.place);
+        print_diagnosis(file);
     } else {
         let site = read.site;
         print_rewritten(site, file);

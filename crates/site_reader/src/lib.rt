@@ -76,6 +76,14 @@ fn read_section(src: &[u8], section: Section, at: usize, dst: &mut [u16]) -> Fou
     }
 }
 
+// What reading finds of the section whose count is number `at` of the file.
+pub fn find_section(src: &[u8], section: Section, at: usize) -> Found
+    ensures { λ r. ⌜ r ≡ sectionOf section (length (now (src .entry))) (words (now (src .entry))) at ⌝ }
+{
+    let mut numbers = [0u16; ranges::MOST_LEVEL_NUMBERS];
+    read_section(src, section, at, &mut numbers)
+}
+
 fn no_site(refusal: u8, place: usize) -> ReadSite
     ensures { λ r. ⌜ r ≡ refused refusal place ⌝ }
 {

@@ -4,6 +4,7 @@ ghost use mathlib.Core.Path.{_≡_};
 ghost use mathlib.Core.List.{_∷_, []};
 ghost use Prim.Native.Nat.{_+_, min};
 ghost use Rattle.text.specs.Decimal.{decimal, twoDigits};
+ghost use Rattle.text.specs.Items.{item};
 ghost use Rattle.text.specs.Put.{farthest, Put};
 
 const FARTHEST: usize = 18446744073709551615;
@@ -58,4 +59,26 @@ pub fn put_decimal(out: &mut [u8], at: usize, n: u64) -> usize
     }
     let last = put_decimal(out, at, n / 10);
     put_byte(out, last, 48 + (n % 10) as u8)
+}
+
+// Item i, from 0, of a list whose items stand between commas; nothing where the list has none.
+pub fn put_item(out: &mut [u8], at: usize, list: &[u8], i: usize) -> usize
+    ensures { λ r. ⌜ Put (now (out .entry)) at (item (now (list .entry)) i) r (now (out .exit)) ⌝ }
+{
+    let mut p = at;
+    let mut left = i;
+    let mut k: usize = 0;
+    while k < list.len() {
+        let byte = list[k];
+        if byte == b',' {
+            if left == 0 {
+                return p;
+            }
+            left -= 1;
+        } else if left == 0 {
+            p = put_byte(out, p, byte);
+        }
+        k += 1;
+    }
+    p
 }

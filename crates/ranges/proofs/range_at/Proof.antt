@@ -19,11 +19,8 @@ enum-told-2 c = search needs
 sub-row : tie.Need-sub-row
 sub-row c = search needs
 
-add-number-at : tie.Need-add-number-at
-add-number-at c = search needs
-
-number-at-requires-2 : tie.Need-number-at-requires-2
-number-at-requires-2 c κs = search needs
+in-row-requires : tie.Need-in-row-requires
+in-row-requires c κs = search needs
 
 entry-range-requires : tie.Need-entry-range-requires
 entry-range-requires c κs = search needs
@@ -34,14 +31,11 @@ enum-told-3 c = search needs
 sub-row-2 : tie.Need-sub-row-2
 sub-row-2 c = search needs
 
-number-at-requires-3 : tie.Need-number-at-requires-3
-number-at-requires-3 c κs = search needs
+number-at-requires-2 : tie.Need-number-at-requires-2
+number-at-requires-2 c κs = search needs
 
-add-number-at-2 : tie.Need-add-number-at-2
-add-number-at-2 c = search needs
-
-number-at-requires-4 : tie.Need-number-at-requires-4
-number-at-requires-4 c κs = search needs
+in-row-requires-2 : tie.Need-in-row-requires-2
+in-row-requires-2 c κs = search needs
 
 holiday-range-requires : tie.Need-holiday-range-requires
 holiday-range-requires c κs = search needs
@@ -58,11 +52,11 @@ returns c = rw (c .before .before .enum-told .given .1, ← c .before .number-at
 
 returns-2 : tie.Need-returns-2
 unfolding rangeOf
-returns-2 c = rw (c .before .before .enum-told2 .given .1, ← c .before .number-at2 .ensures) (c .entry-range .ensures)
+returns-2 c = rw (c .before .before .enum-told2 .given .1, ← c .before .in-row .ensures) (c .entry-range .ensures)
 
 returns-3 : tie.Need-returns-3
 unfolding rangeOf
-returns-3 c = rw (c .before .before .before .enum-told3 .given .1, ← c .before .before .number-at3 .ensures, ← c .before .number-at4 .ensures) (c .holiday-range .ensures)
+returns-3 c = rw (c .before .before .before .enum-told3 .given .1, ← c .before .before .number-at2 .ensures, ← c .before .in-row2 .ensures) (c .holiday-range .ensures)
 
 returns-4 : tie.Need-returns-4
 unfolding rangeOf
@@ -77,14 +71,12 @@ range-at-spec =
     timing-range-requires
     enum-told-2
     sub-row
-    add-number-at
-    number-at-requires-2
+    in-row-requires
     entry-range-requires
     enum-told-3
     sub-row-2
-    number-at-requires-3
-    add-number-at-2
-    number-at-requires-4
+    number-at-requires-2
+    in-row-requires-2
     holiday-range-requires
     enum-told-4
     level-range-requires

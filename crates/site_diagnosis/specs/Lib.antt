@@ -1,0 +1,3 @@
+pub mod Names
+pub mod Wrong
+pub mod Diagnosis
