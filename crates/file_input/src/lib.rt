@@ -42,22 +42,17 @@ fn read_all(fd: i32, buf: &mut [u8]) -> Input
     }
 }
 
-// Reads the front of the file of that name; an absent one counts as empty. A failure is reported
-// on standard error.
-pub fn read_file(name: &[u8], buf: &mut [u8]) -> Input
+// Reads the front of the file of that name. An absent one that nobody named counts as empty. A
+// failure is reported on standard error.
+pub fn read_file(name: &[u8], named: bool, buf: &mut [u8]) -> Input
     ensures { λ r. ⌜ r .count ≤ length (now (buf .entry)) ⌝ }
 {
     let fd = os::open_read(name);
     if fd < 0 {
-        if os::errno() == libc::ENOENT {
-            return Input {
-                failed: false,
-                count: 0,
-            };
-        }
+        let absent = os::errno() == libc::ENOENT;
         os::fail(name);
         return Input {
-            failed: true,
+            failed: named || !absent,
             count: 0,
         };
     }

@@ -1,49 +1,80 @@
-// What every program does that reads a site file: its argument, its help, its errors.
+// What every program does that reads a site file: its argument and its help, its output and its
+// errors.
 mod arguments;
 
 pub use arguments::Asked;
 pub use arguments::asked_by;
-ghost use Rattle.io.specs.Counts.{Counts};
+ghost use mathlib.Core.Path.{_≡_};
+ghost use Prim.Native.Nat.{_≤_};
+ghost use lib.ListN.{length};
 use libc::STDERR_FILENO;
 use libc::STDOUT_FILENO;
 
-// Whether a site file is to be read; whether the user named it, and how long its name is.
-pub struct SiteName {
+// Whether a site file is to be read, whether the user named it, and how long its name is.
+pub struct AskedSite {
     pub given: bool,
     pub named: bool,
     pub count: usize,
 }
 
-// Writes to standard output. A failure is reported on standard error.
-pub fn write_out(text: &[u8]) -> bool {
-    if io::write_all(STDOUT_FILENO, text) {
+// Writes the first n bytes of a text, where there are as many. A failure is reported on standard
+// error.
+pub fn write_out(text: &[u8], n: usize) -> bool {
+    if text.len() < n {
+        return false;
+    }
+    if io::write_all(STDOUT_FILENO, &text[..n]) {
         return true;
     }
     os::fail(b"standard output");
     false
 }
 
-// Writes the first n bytes, where there are as many.
-fn write_front(fd: i32, text: &[u8], n: usize) {
+// The same to a file for errors, whose own failure has no place to be reported.
+pub fn write_error(errors: i32, text: &[u8], n: usize) {
     if n <= text.len() {
-        io::write_all(fd, &text[..n]);
+        io::write_all(errors, &text[..n]);
     }
 }
 
-// Says on a file of errors what is wrong with the site file of that name.
+// Says what is wrong with the site file of that name, if anything is.
 pub fn explain(errors: i32, name: &[u8], file: &[u8]) {
-    let mut out = io::large_buffer();
-    let n = site_diagnosis::put_diagnosis(&mut out, 0, name, file);
-    write_front(errors, &out, n);
+    let mut text = io::large_buffer();
+    let n = site_diagnosis::put_diagnosis(&mut text, 0, name, file);
+    write_error(errors, &text, n);
 }
 
-// The program's one argument, in the front of a buffer; errno says where it does not fit.
-fn argument(name: &mut [u8]) -> usize
-    ensures { λ r. ⌜ Counts r (now (name .exit)) ⌝ }
+fn nothing_asked() -> AskedSite
+    ensures { λ r. ⌜ r .count ≡ 0 ⌝ }
 {
-    os::arg(1, name)
+    AskedSite {
+        given: false,
+        named: false,
+        count: 0,
+    }
 }
 
+fn print_help(usage: &[u8], help: &[u8]) {
+    if write_out(usage, usage.len()) {
+        write_out(help, help.len());
+    }
+}
+
+fn print_no_option(argument: &[u8], usage: &[u8]) {
+    io::write_all(STDERR_FILENO, argument);
+    io::write_all(STDERR_FILENO, b" is no option\n");
+    io::write_all(STDERR_FILENO, usage);
+}
+
+fn print_too_many(count: usize, usage: &[u8]) {
+    let mut text = io::buffer();
+    let p = text::put_decimal(&mut text, 0, count as u64);
+    let n = text::put_bytes(&mut text, p, b" arguments, at most 1 wanted\n");
+    write_error(STDERR_FILENO, &text, n);
+    io::write_all(STDERR_FILENO, usage);
+}
+
+// How many arguments stand behind the program's own name.
 fn arguments_given() -> usize {
     let count = os::arg_count();
     if count == 0 {
@@ -52,26 +83,53 @@ fn arguments_given() -> usize {
     count - 1
 }
 
-fn no_site() -> SiteName {
-    SiteName {
-        given: false,
+// The default name, in the front of a buffer.
+fn default_name(name: &mut [u8]) -> AskedSite
+    ensures { λ r. ⌜ r .count ≤ length (now (name .exit)) ⌝ }
+{
+    let n = text::put_bytes(name, 0, b"site.bin");
+    if name.len() < n {
+        return nothing_asked();
+    }
+    AskedSite {
+        given: true,
         named: false,
-        count: 0,
+        count: n,
     }
 }
 
-fn no_option(argument: &[u8], usage: &[u8]) -> SiteName {
-    io::write_all(STDERR_FILENO, argument);
-    io::write_all(STDERR_FILENO, b" is no option\n");
-    io::write_all(STDERR_FILENO, usage);
-    no_site()
-}
-
-fn too_many(count: usize, usage: &[u8]) -> SiteName {
-    let mut out = io::buffer();
-    let p = text::put_decimal(&mut out, 0, count as u64);
-    let n = text::put_bytes(&mut out, p, b" arguments, at most 1 wanted\n");
-    write_front(STDERR_FILENO, &out, n);
-    io::write_all(STDERR_FILENO, usage);
-    no_site()
+// The site file that the arguments ask for; its name is put in the front of a buffer. Help is
+// printed, and arguments that are wrong are reported.
+pub fn asked_site(usage: &[u8], help: &[u8], name: &mut [u8]) -> AskedSite
+    ensures { λ r. ⌜ r .count ≤ length (now (name .exit)) ⌝ }
+{
+    let count = arguments_given();
+    let n = os::arg(1, name);
+    let error = os::errno();
+    match asked_by(count, &name[..n]) {
+        Asked::Default => default_name(name),
+        Asked::Named => {
+            if error != 0 {
+                os::fail(b"the site file's name");
+                return nothing_asked();
+            }
+            AskedSite {
+                given: true,
+                named: true,
+                count: n,
+            }
+        }
+        Asked::Help => {
+            print_help(usage, help);
+            nothing_asked()
+        }
+        Asked::NoOption => {
+            print_no_option(&name[..n], usage);
+            nothing_asked()
+        }
+        Asked::TooMany => {
+            print_too_many(count, usage);
+            nothing_asked()
+        }
+    }
 }

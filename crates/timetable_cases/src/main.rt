@@ -1,11 +1,12 @@
-// Runs the timetable program on stored site files, each behind a line with its name.
+// Runs the timetable program on stored site files, each behind a line with its name. What it says
+// on standard error of a refused file follows on standard output.
 use libc::STDOUT_FILENO;
 
 fn show(name: &[u8]) {
     io::write_all(STDOUT_FILENO, b"-- ");
     io::write_all(STDOUT_FILENO, name);
     io::write_all(STDOUT_FILENO, b"\n");
-    timetable_file::run(name);
+    timetable_file::run(name, false, STDOUT_FILENO);
 }
 
 fn main() {
