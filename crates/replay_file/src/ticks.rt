@@ -1,7 +1,4 @@
 // Reading ticks and writing their answers.
-ghost use Prim.Native.Nat.{_≤_};
-ghost use lib.ListN.{length};
-use libc::STDOUT_FILENO;
 use replay_lines::Run;
 use site::Site;
 
@@ -11,18 +8,6 @@ struct Going {
     on: bool,
 }
 
-// Writes the first n bytes out. A failure is reported on standard error.
-pub fn write_front(out: &[u8], n: usize) -> bool {
-    if out.len() < n {
-        return false;
-    }
-    if io::write_all(STDOUT_FILENO, &out[..n]) {
-        return true;
-    }
-    os::fail(b"standard output");
-    false
-}
-
 // Takes the bytes of one read, and writes all that they add.
 fn take_all(site: Site, first: Run, bytes: &[u8], out: &mut [u8]) -> Going {
     let mut run = first;
@@ -30,7 +15,7 @@ fn take_all(site: Site, first: Run, bytes: &[u8], out: &mut [u8]) -> Going {
     while from < bytes.len() {
         let taken = replay_lines::take(site, run, &bytes[from..], out);
         run = taken.run;
-        if !write_front(out, taken.text) {
+        if !site_program::write_out(out, taken.text) {
             return Going { run, on: false };
         }
         if taken.bytes == 0 {
@@ -44,6 +29,16 @@ fn take_all(site: Site, first: Run, bytes: &[u8], out: &mut [u8]) -> Going {
     }
 }
 
+// The end of the ticks; a last line may lack its newline.
+fn end_all(site: Site, run: Run, out: &mut [u8]) -> Going {
+    let end = replay_lines::put_last(out, 0, site, run);
+    site_program::write_out(out, end);
+    Going {
+        run: replay_lines::last(site, run),
+        on: false,
+    }
+}
+
 // One read of the ticks.
 fn read_some(site: Site, run: Run, fd: i32, bytes: &mut [u8], out: &mut [u8]) -> Going {
     let got = libc::read(fd, bytes);
@@ -53,15 +48,13 @@ fn read_some(site: Site, run: Run, fd: i32, bytes: &mut [u8], out: &mut [u8]) ->
     }
     let n = io::count(got, bytes);
     if n == 0 {
-        let end = replay_lines::put_last(out, 0, site, run);
-        write_front(out, end);
-        return Going { run, on: false };
+        return end_all(site, run, out);
     }
     take_all(site, run, &bytes[..n], out)
 }
 
 // Reads ticks until they end or a line is no tick. All answers are written before the next read.
-pub fn replay_at(site: Site, fd: i32) {
+pub fn replay_at(site: Site, fd: i32, errors: i32) {
     let mut space = io::large_buffer();
     let out: &mut [u8] = &mut space;
     let mut more = io::large_buffer();
@@ -69,7 +62,7 @@ pub fn replay_at(site: Site, fd: i32) {
     let heading = tick_text::put_heading(out, 0);
     let mut going = Going {
         run: replay_lines::start(site),
-        on: write_front(out, heading),
+        on: site_program::write_out(out, heading),
     };
     let mut left: u64 = 18446744073709551615;
     while 0 < left {

@@ -1,6 +1,6 @@
 // What a program's arguments ask of it.
 ghost use mathlib.Core.Path.{_≡_};
-ghost use Rattle.site_program.specs.Arguments.{same, askedByOne, askedBy};
+ghost use Rattle.site_program.specs.Arguments.{askedByOne, askedBy};
 
 pub enum Asked {
     // the site file of the default name
@@ -12,27 +12,10 @@ pub enum Asked {
     TooMany,
 }
 
-// Whether two texts are the same.
-fn same(a: &[u8], b: &[u8]) -> bool
-    ensures { λ r. ⌜ r ≡ same (now (a .entry)) (now (b .entry)) ⌝ }
-{
-    if a.len() != b.len() {
-        return false;
-    }
-    let mut i: usize = 0;
-    while i < a.len() {
-        if a[i] != b[i] {
-            return false;
-        }
-        i += 1;
-    }
-    true
-}
-
 fn asked_by_one(argument: &[u8]) -> Asked
     ensures { λ r. ⌜ r ≡ askedByOne (now (argument .entry)) ⌝ }
 {
-    if same(argument, b"--help") {
+    if check::same(argument, b"--help") {
         return Asked::Help;
     }
     if argument.len() == 0 {

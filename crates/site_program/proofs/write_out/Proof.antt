@@ -1,9 +1,9 @@
--- The part lies within the buffer.
+-- The part lies within the text.
 use lib.Seq.{length-take-le}
 use mathlib.Core.Path.{sym}
 use borrow.Author.Needs.{needs}
-use Rattle.replay_file.proofs.lines.write_out.Statement.{statement}
-use Rattle.replay_file.proofs.lines.write_out.Tie as tie
+use Rattle.site_program.proofs.write_out.Statement.{statement}
+use Rattle.site_program.proofs.write_out.Tie as tie
 
 returns : tie.Need-returns
 returns c = search needs
