@@ -1,30 +1,30 @@
 -- What kind of byte a byte is, and the words of a line that begins with it.
 use Prim.Native.Nat.{ℕ, _-_}
-use mathlib.Core.Path.{_≡_, refl}
+use mathlib.Core.Path.{_≡_, refl, _∙_}
 use mathlib.Core.Bool.{Bool, true, false}
 use mathlib.Core.List.{List, [], _∷_}
 use native.Mathlib.Omega.{arith}
 use borrow.Author.Tests.{ltb-true, ltb-false, eqb-true, le-leb, lt-leb, ne-eqb}
 use lib.Dec.{ltb, leb, eqb}
 use Rattle.tick_line.specs.declared.scan.Scan.{Scan}
-use Rattle.tick_line.specs.Scan.{withDigit, withBlank, withReturn, withOther, withByte}
+use Rattle.tick_line.specs.Scan.{withDigit, withBlank, withReturn, withOther, withByte, afterByte}
 use Rattle.tick_line.specs.Words.{withoutReturn, onFirst, wordsOf, withoutLastEmpty, isDigit}
+use Rattle.tick_line.proofs.ScanLaws.{behind-other}
 
--- A byte is a blank, a carriage return, a digit or another.
+-- A byte is a blank, a carriage return, a digit or another; what it does to a scan whose last byte was no carriage return.
 pub data Kind (b : ℕ) : Type 0 where
-  blank : eqb b 32 ≡ true → eqb b 13 ≡ false → ((s : Scan) → withByte s b ≡ withBlank s) → Kind b
-  return : eqb b 32 ≡ false → eqb b 13 ≡ true → isDigit b ≡ false → ((s : Scan) → withByte s b ≡ withReturn s) → Kind b
-  digit : eqb b 32 ≡ false → eqb b 13 ≡ false → isDigit b ≡ true → ((s : Scan) → withByte s b ≡ withDigit s (b - 48)) → Kind b
-  other : eqb b 32 ≡ false → eqb b 13 ≡ false → isDigit b ≡ false → ((s : Scan) → withByte s b ≡ withOther s) → Kind b
+  blank : eqb b 32 ≡ true → eqb b 13 ≡ false → ((s : Scan) → s .returned ≡ false → afterByte s b ≡ withBlank s) → Kind b
+  return : eqb b 32 ≡ false → eqb b 13 ≡ true → isDigit b ≡ false → ((s : Scan) → s .returned ≡ false → afterByte s b ≡ withReturn s) → Kind b
+  digit : eqb b 32 ≡ false → eqb b 13 ≡ false → isDigit b ≡ true → ((s : Scan) → s .returned ≡ false → afterByte s b ≡ withDigit s (b - 48)) → Kind b
+  other : eqb b 32 ≡ false → eqb b 13 ≡ false → isDigit b ≡ false → ((s : Scan) → s .returned ≡ false → afterByte s b ≡ withOther s) → Kind b
 
 kind-by : (b : ℕ) (t u v w : Bool) → eqb b 32 ≡ t → eqb b 13 ≡ u → ltb b 48 ≡ v → leb b 57 ≡ w → Kind b
 unfolding withByte
-kind-by b true u v w e f g h = blank e (ne-eqb b 13 (λ q. omega (arith, eqb-true b 32 e))) (λ s. rw e)
-kind-by b false true v w e f g h =
-    return e f (rw (lt-leb 48 b (omega (arith, eqb-true b 13 f)))) (λ s. rw (e, f))
-kind-by b false false true w e f g h = other e f (rw (lt-leb 48 b (ltb-true b 48 g))) (λ s. rw (e, f, g))
-kind-by b false false false true e f g h = digit e f (rw (le-leb 48 b (ltb-false b 48 g), h)) (λ s. rw (e, f, g, h))
-kind-by b false false false false e f g h = other e f (rw (le-leb 48 b (ltb-false b 48 g), h)) (λ s. rw (e, f, g, h))
+kind-by b true u v w e f g h = blank e (ne-eqb b 13 (λ q. omega (arith, eqb-true b 32 e))) (λ s r. behind-other s b r ∙ rw e)
+kind-by b false true v w e f g h = return e f (rw (lt-leb 48 b (omega (arith, eqb-true b 13 f)))) (λ s r. behind-other s b r ∙ rw (e, f))
+kind-by b false false true w e f g h = other e f (rw (lt-leb 48 b (ltb-true b 48 g))) (λ s r. behind-other s b r ∙ rw (e, f, g))
+kind-by b false false false true e f g h = digit e f (rw (le-leb 48 b (ltb-false b 48 g), h)) (λ s r. behind-other s b r ∙ rw (e, f, g, h))
+kind-by b false false false false e f g h = other e f (rw (le-leb 48 b (ltb-false b 48 g), h)) (λ s r. behind-other s b r ∙ rw (e, f, g, h))
 
 pub kind : (b : ℕ) → Kind b
 kind b = kind-by b _ _ _ _ refl refl refl refl

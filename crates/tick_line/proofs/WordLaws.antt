@@ -15,10 +15,10 @@ use Rattle.tick_line.specs.declared.scan.Stage.{Stage}
 use Rattle.tick_line.specs.declared.scan.Stage.the-variants.{Between, Number, Blanks, NoNumber, Above, Empty}
 use Rattle.tick_line.specs.declared.reading.Verdict.the-variants.{NoNumber as WordNoNumber, Above as WordAbove, Empty as WordEmpty}
 use Rattle.tick_line.specs.declared.reading.ReadLine.{ReadLine}
-use Rattle.tick_line.specs.Scan.{lineStart, inStage, inNumber, afterDigit, afterBlank, afterOther, grown, mostOf, withNumber, withDigit, ended, withBlank, withReturn, withOther, withByte, afterByte, scanned, closed}
+use Rattle.tick_line.specs.Scan.{lineStart, inStage, inNumber, afterDigit, afterBlank, afterOther, grown, mostOf, withNumber, withDigit, ended, withBlank, withReturn, withOther, afterByte, scanned, closed}
 use Rattle.tick_line.specs.Reading.{wordsWanted, verdictOf, readAs, tickRead}
 use Rattle.tick_line.specs.Words.{unlessLast, lineWords, isDigit, digitsAlone, followedBy, valueOf, verdictFrom, lineVerdict, numbersFrom, lineRow, lineRead}
-use Rattle.tick_line.proofs.ScanLaws.{behind-return, behind-other}
+use Rattle.tick_line.proofs.ScanLaws.{behind-return}
 use Rattle.tick_line.proofs.ByteLaws.{Kind, blank, return, digit, other, kind, firstIn, othersIn, words-blank, words-more, words-return}
 use Rattle.tick_line.proofs.RowLaws.{one-more, placeBehind, row-step, over-zeros}
 
@@ -34,8 +34,11 @@ most-fits word = by-word (eqb word 4)
     by-word true = omega arith
     by-word false = omega arith
 
--- A value so far that is kept up to 4294967296, with one more digit.
-grown-kept : (value d : ℕ) → grown (min value 4294967296) d ≡ min (value * 10 + d) 4294967296
+-- The scan keeps a value up to 4294967296.
+abbrev kept : ℕ → ℕ
+kept value = min value 4294967296
+
+grown-kept : (value d : ℕ) → grown (kept value) d ≡ kept (value * 10 + d)
 unfolding grown
 grown-kept value d = omega arith
 
@@ -79,10 +82,10 @@ module _ (n m : ℕ) where
 
     stays : (value b : ℕ) → Kind b → (r : Bool) × (v : ℕ) × (afterByte (settledAt false value) b ≡ settledAt r v)
     unfolding withBlank withReturn withDigit withOther inStage
-    stays value b (blank e f w) = (false, value, behind-other _ b refl ∙ w _ ∙ rw (h .0, h .1))
-    stays value b (return e f g w) = (true, value, behind-other _ b refl ∙ w _)
-    stays value b (digit e f g w) = (false, grown value (b - 48), behind-other _ b refl ∙ w _ ∙ rw (h .2))
-    stays value b (other e f g w) = (false, value, behind-other _ b refl ∙ w _ ∙ rw (h .3))
+    stays value b (blank e f w) = (false, value, w _ refl ∙ rw (h .0, h .1))
+    stays value b (return e f g w) = (_, value, w _ refl)
+    stays value b (digit e f g w) = (false, grown value (b - 48), w _ refl ∙ rw (h .2))
+    stays value b (other e f g w) = (false, value, w _ refl ∙ rw (h .3))
 
     settled : (rest : List ℕ) (returned : Bool) (value : ℕ)
         → result (scanned rest (settledAt returned value)) ≡ readAs (verdictOf stage words (wordsWanted n m)) row n m
@@ -93,6 +96,17 @@ module _ (n m : ℕ) where
     settled (b ∷ rest) false value =
         let (r, v, e) = stays value b (kind b) in
         ap (λ (s : Scan). result (scanned rest s)) e ∙ settled rest r v
+
+  -- Behind a word that is above its most, no number or empty.
+  module _ (rest : List ℕ) (before : ℕ) (row : List ℕ) (l : before < 2 ^ 63) where
+    above-next : (value : ℕ) → result (scanned rest (scanAt Above value before row)) ≡ readAs (WordAbove (before + 1)) row n m
+    above-next value = settled Above (refl, refl, refl, refl) before row rest false value ∙ rw (one-more before l)
+
+    no-number-next : (value : ℕ) → result (scanned rest (scanAt NoNumber value before row)) ≡ readAs (WordNoNumber (before + 1)) row n m
+    no-number-next value = settled NoNumber (refl, refl, refl, refl) before row rest false value ∙ rw (one-more before l)
+
+    empty-next : (value : ℕ) → result (scanned rest (scanAt Empty value before row)) ≡ readAs (WordEmpty (before + 1)) row n m
+    empty-next value = settled Empty (refl, refl, refl, refl) before row rest false value ∙ rw (one-more before l)
 
   -- A word that begins with a digit.
   module _ (b : ℕ) (word : List ℕ) (words : List (List ℕ)) (before : ℕ) (row : List ℕ) (g : isDigit b ≡ true) (l : before < 2 ^ 63) where
@@ -112,65 +126,60 @@ module _ (n m : ℕ) where
   -- The end of a number.
   module _ (value before : ℕ) (row : List ℕ) (l : before < 2 ^ 63) where
     abbrev within : Scan
-    within = scanAt Number (min value 4294967296) before row
+    within = scanAt Number (kept value) before row
 
     ended-by : (u : Bool) → ltb (mostOf (before + 1)) value ≡ u
-        → ended within ≡ cond u (scanAt Above (min value 4294967296) before row) (scanAt Between 0 (before + 1) (withNumber row before value))
+        → ended within ≡ cond u (scanAt Above (kept value) before row) (scanAt Between 0 (before + 1) (withNumber row before value))
     unfolding ended inStage
     ended-by true e =
         let h : mostOf (before + 1) < value = ltb-true _ _ e in
-        rw (one-more before l, lt-leb (min value 4294967296) (mostOf (before + 1)) (omega (arith, most-fits (before + 1))))
+        rw (one-more before l, lt-leb (kept value) (mostOf (before + 1)) (omega (arith, most-fits (before + 1))))
     ended-by false e =
         let h : value ≤ mostOf (before + 1) = ltb-false _ _ e in
-        let k : min value 4294967296 ≡ value = omega (arith, most-fits (before + 1)) in
+        let k : kept value ≡ value = omega (arith, most-fits (before + 1)) in
         rw (one-more before l, k, le-leb value (mostOf (before + 1)) h)
 
-    number-ended-by : (rest : List ℕ) → ((row′ : List ℕ) → result (scanned rest (scanAt Between 0 (before + 1) row′)) ≡ readFrom (before + 1) row′ (lineWords rest))
-        → (u : Bool) → ltb (mostOf (before + 1)) value ≡ u
-        → result (scanned rest (ended within)) ≡ readNumber value [] (lineWords rest) before row
-    number-ended-by rest k true e =
-        rw (ended-by true e, e) (settled Above (refl, refl, refl, refl) before row rest false (min value 4294967296) ∙ rw (one-more before l))
-    number-ended-by rest k false e = rw (ended-by false e, e) (k (withNumber row before value))
+    -- The rest then follows a number that is in the row, or a word above its most.
+    module _ (rest : List ℕ) (k : (row′ : List ℕ) → result (scanned rest (scanAt Between 0 (before + 1) row′)) ≡ readFrom (before + 1) row′ (lineWords rest)) where
+      number-ended-by : (u : Bool) → ltb (mostOf (before + 1)) value ≡ u
+          → result (scanned rest (ended within)) ≡ readNumber value [] (lineWords rest) before row
+      number-ended-by true e = rw (ended-by true e, e) (above-next rest before row l (kept value))
+      number-ended-by false e = rw (ended-by false e, e) (k (withNumber row before value))
 
-    number-ended : (rest : List ℕ) → ((row′ : List ℕ) → result (scanned rest (scanAt Between 0 (before + 1) row′)) ≡ readFrom (before + 1) row′ (lineWords rest))
-        → result (scanned rest (ended within)) ≡ readNumber value [] (lineWords rest) before row
-    number-ended rest k = number-ended-by rest k _ refl
+      number-ended : result (scanned rest (ended within)) ≡ readNumber value [] (lineWords rest) before row
+      number-ended = number-ended-by _ refl
+
+    -- The line ends there.
+    number-last-by : (u : Bool) → ltb (mostOf (before + 1)) value ≡ u → result within ≡ readNumber value [] [] before row
+    unfolding closed tickRead
+    number-last-by true e = rw (ended-by true e, e, one-more before l)
+    number-last-by false e = rw (ended-by false e, e)
+
+    number-last : result within ≡ readNumber value [] [] before row
+    number-last = number-last-by _ refl
 
   onward : (rest : List ℕ) {s t : Scan} {r : ReadLine} → s ≡ t → result (scanned rest t) ≡ r → result (scanned rest s) ≡ r
   onward rest e h = ap (λ (s : Scan). result (scanned rest s)) e ∙ h
 
   -- A carriage return and then another byte.
-  returned-within : (s : Scan) (b c : ℕ) → s .returned ≡ false → withByte s b ≡ withReturn s → afterByte (afterByte s b) c ≡ withOther (withReturn s)
+  returned-within : (s : Scan) (b c : ℕ) → afterByte s b ≡ withReturn s → afterByte (afterByte s b) c ≡ withOther (withReturn s)
   unfolding withReturn
-  returned-within s b c h w = ap (λ (t : Scan). afterByte t c) (behind-other s b h ∙ w) ∙ behind-return (withReturn s) c refl
+  returned-within s b c w = ap (λ (t : Scan). afterByte t c) w ∙ behind-return (withReturn s) c refl
 
-  module _ (rest : List ℕ) (before : ℕ) (row : List ℕ) (l : before < 2 ^ 63) where
-    no-number-next : (value : ℕ) → result (scanned rest (scanAt NoNumber value before row)) ≡ readAs (WordNoNumber (before + 1)) row n m
-    no-number-next value = settled NoNumber (refl, refl, refl, refl) before row rest false value ∙ rw (one-more before l)
-
-    empty-next : (value : ℕ) → result (scanned rest (scanAt Empty value before row)) ≡ readAs (WordEmpty (before + 1)) row n m
-    empty-next value = settled Empty (refl, refl, refl, refl) before row rest false value ∙ rw (one-more before l)
-
+  -- A second blank more.
   two-blanks : (before : ℕ) (row : List ℕ) (words : List (List ℕ)) → readFrom before row (unlessLast [] words) ≡ readFrom before row (unlessLast [] (unlessLast [] words))
   two-blanks before row [] = refl
   two-blanks before row (word ∷ words) = empty-read _ _ _
 
+  -- What is read at each of the three other stages, where this rest of the line follows. Behind so many words stand at least twice as many
+  -- bytes, so their count is exact.
   record Claims (rest : List ℕ) : Type 0 where
     between : (before : ℕ) (row : List ℕ) → before * 2 + length rest < 2 ^ 64
         → result (scanned rest (scanAt Between 0 before row)) ≡ readFrom before row (lineWords rest)
     number : (value before : ℕ) (row : List ℕ) → before * 2 + 1 + length rest < 2 ^ 64
-        → result (scanned rest (scanAt Number (min value 4294967296) before row)) ≡ readNumber value (firstIn rest) (othersIn rest) before row
+        → result (scanned rest (scanAt Number (kept value) before row)) ≡ readNumber value (firstIn rest) (othersIn rest) before row
     blanks : (value before : ℕ) (row : List ℕ) → before * 2 + length rest < 2 ^ 64
         → result (scanned rest (scanAt Blanks value before row)) ≡ readFrom before row (unlessLast [] (lineWords rest))
-
-  number-last : (value before : ℕ) (row : List ℕ) → before < 2 ^ 63
-      → result (scanAt Number (min value 4294967296) before row) ≡ readNumber value [] [] before row
-  unfolding lineWords closed tickRead
-  number-last value before row l = by-test (ltb (mostOf (before + 1)) value) refl
-    where
-      by-test : (u : Bool) → ltb (mostOf (before + 1)) value ≡ u → result (scanAt Number (min value 4294967296) before row) ≡ readNumber value [] [] before row
-      by-test true e = rw (ended-by value before row l true e, e, one-more before l)
-      by-test false e = rw (ended-by value before row l false e, e)
 
   claims-end : Claims []
   unfolding lineWords closed tickRead
@@ -186,51 +195,51 @@ module _ (n m : ℕ) where
         → result (scanned (b ∷ rest) (scanAt Between 0 before row)) ≡ readFrom before row (lineWords (b ∷ rest))
     unfolding lineWords withBlank withReturn withDigit withOther inStage closed tickRead grown
     between-step rest (blank e f w) c before row l =
-        onward rest (behind-other _ b refl ∙ w _) (c .blanks 0 before row (omega arith)) ∙ rw (words-blank b rest e f)
-    between-step [] (return e f g w) c before row l = ap result (behind-other _ b refl ∙ w _) ∙ rw f
+        onward rest (w _ refl) (c .blanks 0 before row (omega arith)) ∙ rw (words-blank b rest e f)
+    between-step [] (return e f g w) c before row l = ap result (w _ refl) ∙ rw f
     between-step (x ∷ rest) (return e f g w) c before row l =
-        onward rest (returned-within _ b x refl (w _)) (no-number-next rest before row (omega arith) 0)
+        onward rest (returned-within _ b x (w _ refl)) (no-number-next rest before row (omega arith) 0)
         ∙ rw (words-return b x rest e, g) (no-number-read _ _ _)
     between-step rest (digit e f g w) c before row l =
-        onward rest (behind-other _ b refl ∙ w _) (c .number (0 * 10 + (b - 48)) before row (omega arith))
+        onward rest (w _ refl) (c .number (0 * 10 + (b - 48)) before row (omega arith))
         ∙ rw (words-more b rest e f) (sym (begun b (firstIn rest) (othersIn rest) before row g (omega arith)))
     between-step rest (other e f g w) c before row l =
-        onward rest (behind-other _ b refl ∙ w _) (no-number-next rest before row (omega arith) 0)
+        onward rest (w _ refl) (no-number-next rest before row (omega arith) 0)
         ∙ rw (words-more b rest e f, g) (no-number-read _ _ _)
 
     number-step : (rest : List ℕ) → Kind b → Claims rest → (value before : ℕ) (row : List ℕ) → before * 2 + 1 + length (b ∷ rest) < 2 ^ 64
-        → result (scanned (b ∷ rest) (scanAt Number (min value 4294967296) before row)) ≡ readNumber value (firstIn (b ∷ rest)) (othersIn (b ∷ rest)) before row
+        → result (scanned (b ∷ rest) (scanAt Number (kept value) before row)) ≡ readNumber value (firstIn (b ∷ rest)) (othersIn (b ∷ rest)) before row
     unfolding lineWords withBlank withReturn withDigit withOther inStage closed ended tickRead
     number-step rest (blank e f w) c value before row l =
-        onward rest (behind-other _ b refl ∙ w _) (number-ended value before row (omega arith) rest (λ row′. c .between (before + 1) row′ (omega arith)))
+        onward rest (w _ refl) (number-ended value before row (omega arith) rest (λ row′. c .between (before + 1) row′ (omega arith)))
         ∙ rw (words-blank b rest e f)
     number-step [] (return e f g w) c value before row l =
-        ap result (behind-other _ b refl ∙ w _) ∙ number-last value before row (omega arith) ∙ rw f
+        ap result (w _ refl) ∙ number-last value before row (omega arith) ∙ rw f
     number-step (x ∷ rest) (return e f g w) c value before row l =
-        onward rest (returned-within _ b x refl (w _)) (no-number-next rest before row (omega arith) (min value 4294967296))
+        onward rest (returned-within _ b x (w _ refl)) (no-number-next rest before row (omega arith) (kept value))
         ∙ rw (words-return b x rest e, g)
     number-step rest (digit e f g w) c value before row l =
-        onward rest (behind-other _ b refl ∙ w _ ∙ rw (grown-kept value (b - 48))) (c .number (value * 10 + (b - 48)) before row (omega arith))
+        onward rest (w _ refl ∙ rw (grown-kept value (b - 48))) (c .number (value * 10 + (b - 48)) before row (omega arith))
         ∙ rw (words-more b rest e f, g)
     number-step rest (other e f g w) c value before row l =
-        onward rest (behind-other _ b refl ∙ w _) (no-number-next rest before row (omega arith) (min value 4294967296))
+        onward rest (w _ refl) (no-number-next rest before row (omega arith) (kept value))
         ∙ rw (words-more b rest e f, g)
 
     blanks-step : (rest : List ℕ) → Kind b → Claims rest → (value before : ℕ) (row : List ℕ) → before * 2 + length (b ∷ rest) < 2 ^ 64
         → result (scanned (b ∷ rest) (scanAt Blanks value before row)) ≡ readFrom before row (unlessLast [] (lineWords (b ∷ rest)))
     unfolding lineWords withBlank withReturn withDigit withOther inStage closed tickRead
     blanks-step rest (blank e f w) c value before row l =
-        onward rest (behind-other _ b refl ∙ w _) (c .blanks value before row (omega arith))
+        onward rest (w _ refl) (c .blanks value before row (omega arith))
         ∙ rw (words-blank b rest e f) (two-blanks before row (lineWords rest))
-    blanks-step [] (return e f g w) c value before row l = ap result (behind-other _ b refl ∙ w _) ∙ rw f
+    blanks-step [] (return e f g w) c value before row l = ap result (w _ refl) ∙ rw f
     blanks-step (x ∷ rest) (return e f g w) c value before row l =
-        onward rest (returned-within _ b x refl (w _)) (empty-next rest before row (omega arith) value)
+        onward rest (returned-within _ b x (w _ refl)) (empty-next rest before row (omega arith) value)
         ∙ rw (words-return b x rest e) (empty-read _ _ _)
     blanks-step rest (digit e f g w) c value before row l =
-        onward rest (behind-other _ b refl ∙ w _) (empty-next rest before row (omega arith) (grown value (b - 48)))
+        onward rest (w _ refl) (empty-next rest before row (omega arith) (grown value (b - 48)))
         ∙ rw (words-more b rest e f) (empty-read _ _ _)
     blanks-step rest (other e f g w) c value before row l =
-        onward rest (behind-other _ b refl ∙ w _) (empty-next rest before row (omega arith) value)
+        onward rest (w _ refl) (empty-next rest before row (omega arith) value)
         ∙ rw (words-more b rest e f) (empty-read _ _ _)
 
   claims : (rest : List ℕ) → Claims rest
@@ -239,6 +248,7 @@ module _ (n m : ℕ) where
       let c : Claims rest = claims rest in
       record { between = between-step b rest (kind b) c; number = number-step b rest (kind b) c; blanks = blanks-step b rest (kind b) c }
 
+  -- What is read of a line, byte by byte, is what its words say.
   pub line-by-words : (line : List ℕ) → length line < 2 ^ 64 → tickRead (closed (scanned line lineStart)) n m ≡ lineRead line n m
   unfolding lineStart lineRead lineVerdict lineRow
   line-by-words line l = claims line .between 0 (replicate longestRow 0) (omega arith) ∙ rw (over-zeros longestRow longestRow (omega arith) (numbersFrom 0 (lineWords line)))

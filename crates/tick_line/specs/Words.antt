@@ -1,4 +1,4 @@
--- What a line is, by its words: what is read of a whole line, with no step from byte to byte (law `line-by-words`).
+-- What a line is, by its words: what is read of a whole line, with no steps from byte to byte (law `line-by-words`).
 use Prim.Native.Nat.{ℕ, _+_, _*_, _-_, _/_, _%_}
 use mathlib.Core.Bool.{Bool, true, false, cond, _&&_, not}
 use mathlib.Core.List.{List, [], _∷_, _++_}
@@ -38,30 +38,35 @@ abbrev pub withoutLastEmpty : List (List ℕ) → List (List ℕ)
 withoutLastEmpty [] = []
 withoutLastEmpty (word ∷ words) = unlessLast word (withoutLastEmpty words)
 
+-- The words of a line.
 unfoldable pub lineWords : List ℕ → List (List ℕ)
 lineWords line = withoutLastEmpty (wordsOf (withoutReturn line))
 
+-- A word is empty where it has no byte.
 abbrev pub isEmpty : List ℕ → Bool
 isEmpty [] = true
 isEmpty (b ∷ word) = false
 
+-- A digit is a byte from 48 to 57.
 abbrev pub isDigit : ℕ → Bool
 isDigit b = leb 48 b && leb b 57
 
--- A word that is a number has digits alone, 48 to 57.
+-- A word is a number where it has digits alone.
 abbrev pub digitsAlone : List ℕ → Bool
 digitsAlone [] = true
 digitsAlone (b ∷ word) = isDigit b && digitsAlone word
 
--- Its value in decimal: each digit is one more behind those before it.
+-- A value with the digits of a word behind its own.
 abbrev pub followedBy : ℕ → List ℕ → ℕ
 followedBy value [] = value
 followedBy value (b ∷ word) = followedBy (value * 10 + (b - 48)) word
 
+-- A word's value in decimal, however long it is.
 unfoldable pub valueOf : List ℕ → ℕ
 valueOf word = followedBy 0 word
 
--- The leftmost word that is empty, no number or above its most decides, by its number from 1. Where there is none, the words are counted.
+-- Of these words, behind so many others, the leftmost that is empty, no number or above its most decides, and is named by its number from 1.
+-- Where there is none, the words are counted.
 abbrev pub verdictFrom : ℕ → List (List ℕ) → ℕ → Verdict
 verdictFrom before [] wanted = counted before wanted
 verdictFrom before (word ∷ words) wanted =
@@ -73,6 +78,7 @@ verdictFrom before (word ∷ words) wanted =
     (Above (before + 1))
     (verdictFrom (before + 1) words wanted)))
 
+-- Whether a line is a tick where so many words are wanted, and if not, why.
 unfoldable pub lineVerdict : List ℕ → ℕ → Verdict
 lineVerdict line wanted = verdictFrom 0 (lineWords line) wanted
 
@@ -80,6 +86,7 @@ lineVerdict line wanted = verdictFrom 0 (lineWords line) wanted
 unfoldable pub inRow : ℕ → ℕ → List ℕ
 inRow word value = cond (eqb word 4) ((value / 65536) ∷ (value % 65536) ∷ []) (value ∷ [])
 
+-- The values of these words, behind so many others.
 abbrev pub numbersFrom : ℕ → List (List ℕ) → List ℕ
 numbersFrom before [] = []
 numbersFrom before (word ∷ words) = inRow (before + 1) (valueOf word) ++ numbersFrom (before + 1) words
