@@ -1,1 +1,4 @@
 pub mod ScanLaws
+pub mod ByteLaws
+pub mod RowLaws
+pub mod WordLaws

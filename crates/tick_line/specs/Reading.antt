@@ -1,6 +1,7 @@
 -- The tick of a line, or why it is none.
 use Prim.Native.Nat.{ℕ, _-_}
 use mathlib.Core.Bool.{Bool, true, false, cond}
+use mathlib.Core.List.{List}
 use lib.Dec.{eqb}
 use lib.ListN.{replicate}
 use Rattle.tick_row.specs.Row.{longestRow, rowSize, inputOf}
@@ -36,8 +37,11 @@ isTick (WordNoNumber word) = false
 isTick (WordAbove word) = false
 isTick (WordEmpty word) = false
 
--- What is read of a line's words; a line that is no tick gives zeros.
+-- The verdict of a line and its tick, that of this row; a line that is no tick gives zeros.
+unfoldable pub readAs : Verdict → List ℕ → ℕ → ℕ → ReadLine
+readAs verdict row n m =
+    record { verdict = verdict; input = cond (isTick verdict) (inputOf row n m) (inputOf (replicate longestRow 0) 0 0) }
+
+-- What is read of a line's words.
 unfoldable pub tickRead : Scan → ℕ → ℕ → ReadLine
-tickRead s n m =
-    let verdict : Verdict = verdictOf (s .stage) (s .words) (wordsWanted n m) in
-    record { verdict = verdict; input = cond (isTick verdict) (inputOf (s .row) n m) (inputOf (replicate longestRow 0) 0 0) }
+tickRead s n m = readAs (verdictOf (s .stage) (s .words) (wordsWanted n m)) (s .row) n m

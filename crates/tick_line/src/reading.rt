@@ -1,7 +1,11 @@
 // The tick of a line's numbers, or why it is none.
 ghost use mathlib.Core.Path.{_≡_};
-ghost use Rattle.tick_line.specs.Scan.{closed};
+ghost use mathlib.Core.List.{List};
+ghost use Prim.Native.Nat.{ℕ, _^_, _<_};
+ghost use lib.ListN.{length};
+ghost use Rattle.tick_line.specs.Scan.{lineStart, scanned, closed};
 ghost use Rattle.tick_line.specs.Reading.{wordsWanted, counted, verdictOf, isTick, tickRead};
+ghost use Rattle.tick_line.specs.Words.{lineRead};
 use crate::scan;
 use crate::scan::Scan;
 use crate::scan::Stage;
@@ -85,9 +89,11 @@ fn tick_read(s: Scan, n: u16, m: u16) -> ReadLine
     }
 }
 
-// What is read of a line that ends here, at a site of n metered and m mainline lanes.
+// What is read of a line that ends here, at a site of n metered and m mainline lanes: of any line
+// whose bytes led here, shorter than 2^64, what its words say.
 pub fn read(s: Scan, n: u16, m: u16) -> ReadLine
-    ensures { λ r. ⌜ r ≡ tickRead (closed s) n m ⌝ }
+    ensures is { λ r. ⌜ r ≡ tickRead (closed s) n m ⌝ }
+    ensures words { λ r. ⌜ ((line : List ℕ) → length line < 2 ^ 64 → s ≡ scanned line lineStart → r ≡ lineRead line n m) ⌝ }
 {
     tick_read(scan::closed(s), n, m)
 }

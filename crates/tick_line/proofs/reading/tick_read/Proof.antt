@@ -1,5 +1,5 @@
 -- The code's test is the definition's.
-use Rattle.tick_line.specs.Reading.{tickRead}
+use Rattle.tick_line.specs.Reading.{readAs, tickRead}
 use borrow.Author.Needs.{needs}
 use Rattle.tick_line.proofs.reading.tick_read.Statement.{statement}
 use Rattle.tick_line.proofs.reading.tick_read.Tie as tie
@@ -20,7 +20,7 @@ input-of-requires : tie.Need-input-of-requires
 input-of-requires c κs = search needs
 
 returns : tie.Need-returns
-unfolding tickRead
+unfolding tickRead readAs
 returns c = rw (← c .before .before .before .before .before .before .words-wanted .ensures, ← c .before .before .before .before .before .verdict-of .ensures, ← c .before .before .before .before .is-tick .ensures, c .before .before .before .if1 .taken, c .input-of .ensures)
 
 slice-aggregate-input-of-2 : tie.Need-slice-aggregate-input-of-2
@@ -30,7 +30,7 @@ input-of-requires-2 : tie.Need-input-of-requires-2
 input-of-requires-2 c κs = search needs
 
 returns-2 : tie.Need-returns-2
-unfolding tickRead
+unfolding tickRead readAs
 returns-2 c = rw (← c .before .before .before .before .before .words-wanted .ensures, ← c .before .before .before .before .verdict-of .ensures, ← c .before .before .before .is-tick .ensures, c .before .before .if1 .left, c .input-of2 .ensures)
 
 pub tick-read-spec : {M : Type 1} → statement M
