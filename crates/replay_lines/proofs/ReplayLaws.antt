@@ -1,12 +1,12 @@
 -- The input may come in parts: what one part and then the next add is what both add. And what one more byte adds, by which the loop goes.
-use Prim.Native.Nat.{ℕ, suc, _+_, _≤_, _<_}
+use Prim.Native.Nat.{ℕ, zero, suc, _+_, _≤_, _<_}
 use mathlib.Core.Path.{_≡_, refl, sym, ap, _∙_, subst}
 use mathlib.Core.Bool.{Bool, true, false, cond}
 use mathlib.Core.List.{List, [], _∷_, _++_}
 use native.Mathlib.Omega.{arith}
 use native.Mathlib.Numerals.{add-one}
-use borrow.Author.Tests.{eq-eqb, ne-eqb}
-use lib.Dec.{eqb}
+use borrow.Author.Tests.{eq-eqb, ne-eqb, leb-false}
+use lib.Dec.{leb, eqb}
 use lib.ListN.{length, getD, take, drop, take-append-drop}
 use lib.Seq.{take-suc, take-length}
 use Rattle.text.specs.Put.{Put, farthest}
@@ -16,7 +16,7 @@ use Rattle.tick_line.specs.Scan.{lineStart, afterByte as scanAfter}
 use Rattle.tick_line.specs.Reading.{isTick}
 use Rattle.replay_lines.specs.declared.run.Run.{Run}
 use Rattle.replay_lines.specs.declared.run.Line.{Line}
-use Rattle.replay_lines.specs.Replay.{lineOf, lineText, afterLine, withScan, afterByte, addedBy, runAfter, outputOf, lastText, lastRun}
+use Rattle.replay_lines.specs.Replay.{lineOf, lineText, afterLine, withScan, afterByte, addedBy, runAfter, outputOf, lastText, lastRun, longestAnswer}
 
 pub append-nil : (a : List ℕ) → a ++ [] ≡ a
 append-nil [] = refl
@@ -25,6 +25,11 @@ append-nil (x ∷ a) = ap (λ (r : List ℕ). x ∷ r) (append-nil a)
 append-assoc : (a b c : List ℕ) → a ++ (b ++ c) ≡ (a ++ b) ++ c
 append-assoc [] b c = refl
 append-assoc (x ∷ a) b c = ap (λ (r : List ℕ). x ∷ r) (append-assoc a b c)
+
+-- Where there is no room, some bytes have been taken.
+pub no-room : (at end size : ℕ) → leb (end + longestAnswer) size ≡ false → (at ≡ 0 → end ≡ 0) → longestAnswer ≤ size → 0 < at
+no-room zero end size e z h = absurd (omega (arith, leb-false (end + longestAnswer) size e, z refl))
+no-room (suc at) end size e z h = omega arith
 
 -- Behind a line another begins.
 fresh-case : (run : Run) (line : Line) (b : Bool) → isTick (line .verdict) ≡ b → withScan (afterLine run line) lineStart false ≡ afterLine run line

@@ -191,6 +191,7 @@ pub fn take(site: Site, first: Run, bytes: &[u8], out: &mut [u8]) -> Taken
     ensures is { λ r. ⌜ r .run ≡ runAfter site (take (r .bytes) (now (bytes .entry))) first ⌝ }
     ensures adds { λ r. ⌜ Put (now (out .entry)) 0 (outputOf site (take (r .bytes) (now (bytes .entry))) first) (r .text) (now (out .exit)) ⌝ }
     ensures part { λ r. ⌜ r .bytes ≤ length (now (bytes .entry)) ⌝ }
+    ensures goes { λ r. ⌜ (longestAnswer ≤ length (now (out .entry)) → 0 < length (now (bytes .entry)) → 0 < r .bytes) ⌝ }
 {
     if first.ended {
         return Taken {

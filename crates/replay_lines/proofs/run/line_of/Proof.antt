@@ -18,7 +18,7 @@ tick-requires c κs = search needs
 
 returns : tie.Need-returns
 unfolding lineOf
-returns c = let r = c .before .before .before .before in rw (c .before .one-more .ensures, c .tick .ensures .0, r .read .ensures, r .before .before .shape-of .ensures)
+returns c = let r = c .before .before .before .before in rw (c .before .one-more .ensures, c .tick .ensures .0, r .read .ensures .0, r .before .before .shape-of .ensures)
 
 pub line-of-spec : {M : Type 1} → statement M
 line-of-spec =

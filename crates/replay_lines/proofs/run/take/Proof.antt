@@ -1,6 +1,6 @@
 -- The loop's invariant: the run and the output are those of the bytes so far, and no line has been no tick.
 use Prim.Native.Nat.{_+_, _-_, _^_, _≤_, _<_}
-use mathlib.Core.Path.{_≡_, refl, sym, ap}
+use mathlib.Core.Path.{_≡_, refl, sym, _∙_}
 use mathlib.Core.Bool.{false}
 use mathlib.Core.List.{[]}
 use lib.ListN.{length, getD}
@@ -13,7 +13,7 @@ use mir.Val.{Fits}
 use mir.Syntax.{w64}
 use Rattle.text.specs.Put.{farthest}
 use Rattle.replay_lines.specs.Replay.{withScan, lineOf, afterLine}
-use Rattle.replay_lines.proofs.ReplayLaws.{Reached, reached-start, reached-in, reached-line, reached-same, reached-end, fresh-line}
+use Rattle.replay_lines.proofs.ReplayLaws.{Reached, reached-start, reached-in, reached-line, reached-same, reached-end, fresh-line, no-room}
 use Rattle.replay_lines.proofs.run.take.Statement.{statement}
 use Rattle.replay_lines.proofs.run.take.Tie as tie
 
@@ -22,6 +22,7 @@ Inv-loop site bytes out₀ run₀ scan₀ begun₀ end₀ at₀ out run scan beg
     (at ≤ length bytes)
     × (run .ended ≡ false)
     × (length out ≡ length out₀)
+    × (at ≡ 0 → end ≡ 0)
     × Reached site run₀ bytes out₀ at (withScan run scan begun) end out
 
 abbrev μ-loop : tie.MeasureT-loop
@@ -56,17 +57,17 @@ module _ (c : tie.After-after-line Inv-loop μ-loop) where
       let l = p .before .before in
       let f = l .before .before .before in
       reached-same (a .site) (rw (l .line-of .ensures, f .with-scan .ensures) at (c .after-line .ensures))
-      (reached-line (a .site) (w .loop .inv .3) (below after) (w .loop .inv .1) (f .before .if2 .left) (short after) (rw (l .line-of .ensures, f .with-scan .ensures) at (p .put-line .ensures)))
+      (reached-line (a .site) (w .loop .inv .4) (below after) (w .loop .inv .1) (f .before .if2 .left) (short after) (rw (l .line-of .ensures, f .with-scan .ensures) at (p .put-line .ensures)))
 
   line-begins : withScan (c .after-line .result) lineStart false ≡ c .after-line .result
   line-begins = rw (c .after-line .ensures) (fresh-line _ _)
 
 returns : tie.Need-returns Inv-loop μ-loop
-returns c = let a = c .before .before .before .args in let r = reached-end (a .site) (reached-start (a .site) (a .first) (now (a .bytes)) (now (a .out))) (c .if1 .taken) in (r .is, (r .adds, search needs))
+returns c = let a = c .before .before .before .args in let r = reached-end (a .site) (reached-start (a .site) (a .first) (now (a .bytes)) (now (a .out))) (c .if1 .taken) in (r .is, (r .adds, (search needs, λ _ h. h)))
 
 loop-holds : tie.Need-loop-holds Inv-loop μ-loop
 unfolding withScan
-loop-holds c = (search needs, c .before .if1 .left, search needs, reached-start _ _ _ _)
+loop-holds c = (search needs, c .before .if1 .left, search needs, λ _. refl, reached-start _ _ _ _)
 
 shared-slice-read-b : tie.Need-shared-slice-read-b Inv-loop μ-loop
 shared-slice-read-b c = search needs
@@ -86,8 +87,8 @@ loop-again c =
     let t = c .before in
     let h = t .before .before .before in
     let a = h .before .before .before .before .before .args in
-    let next = reached-in (a .site) (h .loop .inv .3) (search needs) (h .loop .inv .1) (t .if2 .taken) in
-    (search needs, h .loop .inv .1, search needs, rw (c .after-byte .ensures) next)
+    let next = reached-in (a .site) (h .loop .inv .4) (search needs) (h .loop .inv .1) (t .if2 .taken) in
+    (search needs, h .loop .inv .1, search needs, λ z. absurd (omega (arith, z)), rw (c .after-byte .ensures) next)
 
 with-scan-requires : tie.Need-with-scan-requires Inv-loop μ-loop
 with-scan-requires c κs = search needs
@@ -102,8 +103,16 @@ returns-2 : tie.Need-returns-2 Inv-loop μ-loop
 returns-2 c =
     let w = c .before .before in
     let h = w .before .before .before .before in
-    let r = rw (← w .with-scan .ensures) at (h .loop .inv .3) in
-    (r .is, (r .adds, search needs))
+    let r = rw (← w .with-scan .ensures) at (h .loop .inv .4) in (
+      r .is,
+      (
+        r .adds,
+        (
+          search needs,
+          λ big _. no-room _ _ _ (sym (c .before .has-room .ensures) ∙ not-true _ (c .if3 .taken)) (h .loop .inv .3) (omega (arith, big, h .loop .inv .2)),
+        ),
+      ),
+    )
 
 line-of-requires : tie.Need-line-of-requires Inv-loop μ-loop
 line-of-requires c κs = search needs
@@ -118,7 +127,7 @@ same-length-2 : tie.Need-same-length-2 Inv-loop μ-loop
 same-length-2 c = same-room (c .before)
 
 returns-3 : tie.Need-returns-3 Inv-loop μ-loop
-returns-3 c = let r = reached-end _ (behind-line (c .before)) (c .if4 .taken) in (r .is, (r .adds, search needs))
+returns-3 c = let r = reached-end _ (behind-line (c .before)) (c .if4 .taken) in (r .is, (r .adds, (search needs, λ _ h. h)))
 
 line-start-requires : tie.Need-line-start-requires Inv-loop μ-loop
 line-start-requires c κs = search needs
@@ -135,6 +144,7 @@ loop-again-2 c =
       omega (arith, below (after l)),
       c .before .if4 .left,
       same-room l,
+      λ z. absurd (omega (arith, z)),
       reached-same _ (rw (c .line-start .ensures) (line-begins l)) (behind-line l),
     )
 
@@ -147,8 +157,8 @@ same-length-3 c = search needs
 returns-4 : tie.Need-returns-4 Inv-loop μ-loop
 returns-4 c =
     let h = c .before .before in
-    let r = rw (← c .with-scan2 .ensures) at (h .loop .inv .3) in
-    (r .is, (r .adds, search needs))
+    let r = rw (← c .with-scan2 .ensures) at (h .loop .inv .4) in
+    (r .is, (r .adds, (search needs, λ _ some. search needs)))
 
 pub take-spec : {M : Type 1} → statement M
 take-spec =
