@@ -1,4 +1,9 @@
-// Replays stored ticks at stored site files, each run behind a line with their names.
+// Replays stored ticks at stored site files: a line of standard input names a site file and a file of
+// ticks. Each run stands behind a line with their names. What the program says on standard error
+// follows on standard output.
+ghost use Prim.Native.Nat.{_≤_};
+ghost use lib.ListN.{length};
+use libc::STDIN_FILENO;
 use libc::STDOUT_FILENO;
 
 fn show(site: &[u8], ticks: &[u8]) {
@@ -12,75 +17,48 @@ fn show(site: &[u8], ticks: &[u8]) {
         os::fail(ticks);
         return;
     }
-    replay_file::replay(site, fd);
+    replay_file::replay(site, false, fd, STDOUT_FILENO);
     libc::close(fd);
 }
 
-fn at_site(ticks: &[u8]) {
-    show(b"site.bin", ticks);
+// The place of the first such byte from a place on, or the end.
+fn place_of(text: &[u8], from: usize, byte: u8) -> usize
+    requires { ⌜ from ≤ length (now text) ⌝ }
+    ensures { λ r. ⌜ (from ≤ r) × (r ≤ length (now (text .entry))) ⌝ }
+{
+    let mut at = from;
+    while at < text.len() {
+        if text[at] == byte {
+            return at;
+        }
+        at += 1;
+    }
+    at
 }
 
-// Site files that are absent or refused; lines of another site.
-fn site_files() {
-    show(b"absent.bin", b"good.txt");
-    show(b"refused.bin", b"good.txt");
-    show(b"wide.bin", b"wide.txt");
-    at_site(b"wide.txt");
+// The run of one line.
+fn show_line(line: &[u8]) {
+    let blank = place_of(line, 0, b' ');
+    if blank < line.len() {
+        let next = blank + 1;
+        show(&line[..blank], &line[next..]);
+    }
 }
 
-// More output than two blocks.
-fn blocks() {
-    show(b"narrow.bin", b"long.txt");
-}
-
-// The end of the input.
-fn ends() {
-    at_site(b"no_lines.txt");
-    at_site(b"good.txt");
-    at_site(b"no_newline.txt");
-    at_site(b"no_newline_bad.txt");
-}
-
-// Lines without numbers, and bytes that are no digits.
-fn bytes() {
-    at_site(b"empty_line.txt");
-    at_site(b"letter.txt");
-    at_site(b"sign.txt");
-}
-
-// Blanks, and other bytes between the numbers.
-fn blanks() {
-    at_site(b"tab.txt");
-    at_site(b"carriage_return.txt");
-    at_site(b"two_blanks.txt");
-    at_site(b"blank_before.txt");
-    at_site(b"blank_behind.txt");
-}
-
-// How many numbers.
-fn counts() {
-    at_site(b"too_few.txt");
-    at_site(b"too_many.txt");
-    at_site(b"far_too_many.txt");
-}
-
-// How large the numbers are.
-fn sizes() {
-    at_site(b"year_65535.txt");
-    at_site(b"year_65536.txt");
-    at_site(b"tenth_4294967295.txt");
-    at_site(b"tenth_4294967296.txt");
-    at_site(b"number_of_30_digits.txt");
-    at_site(b"leading_zeros.txt");
-    at_site(b"last_number_65536.txt");
+fn show_all(lines: &[u8]) {
+    let mut from: usize = 0;
+    while from < lines.len() {
+        let end = place_of(lines, from, b'\n');
+        show_line(&lines[from..end]);
+        if lines.len() <= end {
+            return;
+        }
+        from = end + 1;
+    }
 }
 
 fn main() {
-    site_files();
-    blocks();
-    ends();
-    bytes();
-    blanks();
-    counts();
-    sizes();
+    let mut lines = io::large_buffer();
+    let n = io::read_full(STDIN_FILENO, &mut lines);
+    show_all(&lines[..n]);
 }

@@ -4,7 +4,7 @@ mod ticks;
 fn print_refusal(refusal: u8, place: usize) -> bool {
     let mut text = io::buffer();
     let n = phrases::put_refusal(&mut text, 0, refusal, place);
-    site_program::write_out(&text, n)
+    site_program::write_front(&text, n)
 }
 
 // Replays the ticks of a file at the site of that name. A site file that is refused prints why, and

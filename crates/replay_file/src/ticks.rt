@@ -1,4 +1,9 @@
 // Reading ticks and writing their answers.
+ghost use mathlib.Core.Path.{_≡_};
+ghost use mathlib.Core.Bool.{true};
+ghost use Prim.Native.Nat.{_≤_};
+ghost use lib.ListN.{length};
+ghost use Rattle.replay_lines.specs.Replay.{longestAnswer, runAfter};
 use replay_lines::Run;
 use site::Site;
 
@@ -8,17 +13,17 @@ struct Going {
     on: bool,
 }
 
-// Takes the bytes of one read, and writes all that they add.
-fn take_all(site: Site, first: Run, bytes: &[u8], out: &mut [u8]) -> Going {
+// Takes the bytes of one read, and writes all that they add. The run goes on behind all of them.
+fn take_all(site: Site, first: Run, bytes: &[u8], out: &mut [u8]) -> Going
+    requires { ⌜ longestAnswer ≤ length (now out) ⌝ }
+    ensures { λ r. ⌜ (r .on ≡ true → r .run ≡ runAfter site (now (bytes .entry)) first) ⌝ }
+{
     let mut run = first;
     let mut from: usize = 0;
     while from < bytes.len() {
         let taken = replay_lines::take(site, run, &bytes[from..], out);
         run = taken.run;
-        if !site_program::write_out(out, taken.text) {
-            return Going { run, on: false };
-        }
-        if taken.bytes == 0 {
+        if !site_program::write_front(out, taken.text) {
             return Going { run, on: false };
         }
         from += taken.bytes;
@@ -32,7 +37,7 @@ fn take_all(site: Site, first: Run, bytes: &[u8], out: &mut [u8]) -> Going {
 // The end of the ticks; a last line may lack its newline.
 fn end_all(site: Site, run: Run, out: &mut [u8]) -> Going {
     let end = replay_lines::put_last(out, 0, site, run);
-    site_program::write_out(out, end);
+    site_program::write_front(out, end);
     Going {
         run: replay_lines::last(site, run),
         on: false,
@@ -40,7 +45,9 @@ fn end_all(site: Site, run: Run, out: &mut [u8]) -> Going {
 }
 
 // One read of the ticks.
-fn read_some(site: Site, run: Run, fd: i32, bytes: &mut [u8], out: &mut [u8]) -> Going {
+fn read_some(site: Site, run: Run, fd: i32, bytes: &mut [u8], out: &mut [u8]) -> Going
+    requires { ⌜ longestAnswer ≤ length (now out) ⌝ }
+{
     let got = libc::read(fd, bytes);
     if got < 0 {
         os::fail(b"the ticks");
@@ -62,7 +69,7 @@ pub fn replay_at(site: Site, fd: i32, errors: i32) {
     let heading = tick_text::put_heading(out, 0);
     let mut going = Going {
         run: replay_lines::start(site),
-        on: site_program::write_out(out, heading),
+        on: site_program::write_front(out, heading),
     };
     let mut left: u64 = 18446744073709551615;
     while 0 < left {

@@ -17,17 +17,21 @@ pub struct AskedSite {
     pub count: usize,
 }
 
-// Writes the first n bytes of a text, where there are as many. A failure is reported on standard
-// error.
-pub fn write_out(text: &[u8], n: usize) -> bool {
-    if text.len() < n {
-        return false;
-    }
-    if io::write_all(STDOUT_FILENO, &text[..n]) {
+// Writes a text. A failure is reported on standard error.
+pub fn write_out(text: &[u8]) -> bool {
+    if io::write_all(STDOUT_FILENO, text) {
         return true;
     }
     os::fail(b"standard output");
     false
+}
+
+// Writes the first n bytes of a text, where there are as many.
+pub fn write_front(text: &[u8], n: usize) -> bool {
+    if text.len() < n {
+        return false;
+    }
+    write_out(&text[..n])
 }
 
 // The same to a file for errors, whose own failure has no place to be reported.
@@ -55,8 +59,8 @@ fn nothing_asked() -> AskedSite
 }
 
 fn print_help(usage: &[u8], help: &[u8]) {
-    if write_out(usage, usage.len()) {
-        write_out(help, help.len());
+    if write_out(usage) {
+        write_out(help);
     }
 }
 

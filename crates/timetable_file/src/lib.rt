@@ -12,7 +12,7 @@ pub fn run(name: &[u8], named: bool, errors: i32) {
     let n = input.count;
     let mut text = [0u8; listing::LONGEST_TEXT];
     let count = listing::print_whole(&file[..n], &mut text);
-    if site_program::write_out(&text, count) {
+    if site_program::write_out(&text[..count]) {
         site_program::explain(errors, name, &file[..n]);
     }
 }

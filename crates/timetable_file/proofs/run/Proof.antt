@@ -24,7 +24,7 @@ array-share-prefix-file : tie.Need-array-share-prefix-file
 array-share-prefix-file c = search needs
 
 slice-aggregate-print-whole : tie.Need-slice-aggregate-print-whole
-slice-aggregate-print-whole c = let p = c .before .before .before in sym (length-take-le _ _ (omega (arith, p .read-file .ensures, p .read-file .kept .1 .0)))
+slice-aggregate-print-whole c = sym (length-take-le _ _ (search needs))
 
 print-whole-requires : tie.Need-print-whole-requires
 print-whole-requires c κs = search needs
@@ -32,17 +32,20 @@ print-whole-requires c κs = search needs
 array-share-prefix-text : tie.Need-array-share-prefix-text
 array-share-prefix-text c = printed c
 
-slice-aggregate-write-all : tie.Need-slice-aggregate-write-all
-slice-aggregate-write-all c = sym (length-take-le _ _ (printed (c .before)))
+slice-aggregate-write-out : tie.Need-slice-aggregate-write-out
+slice-aggregate-write-out c = sym (length-take-le _ _ (printed (c .before)))
 
-write-all-requires : tie.Need-write-all-requires
-write-all-requires c κs = search needs
+write-out-requires : tie.Need-write-out-requires
+write-out-requires c κs = search needs
 
-slice-aggregate-fail : tie.Need-slice-aggregate-fail
-slice-aggregate-fail c = search needs
+array-share-prefix-file-2 : tie.Need-array-share-prefix-file-2
+array-share-prefix-file-2 c = search needs
 
-fail-requires : tie.Need-fail-requires
-fail-requires c κs = search needs
+slice-aggregate-explain : tie.Need-slice-aggregate-explain
+slice-aggregate-explain c = sym (length-take-le _ _ (search needs))
+
+explain-requires : tie.Need-explain-requires
+explain-requires c κs = search needs
 
 returns-2 : tie.Need-returns-2
 returns-2 c = search needs
@@ -61,9 +64,10 @@ run-spec =
     slice-aggregate-print-whole
     print-whole-requires
     array-share-prefix-text
-    slice-aggregate-write-all
-    write-all-requires
-    slice-aggregate-fail
-    fail-requires
+    slice-aggregate-write-out
+    write-out-requires
+    array-share-prefix-file-2
+    slice-aggregate-explain
+    explain-requires
     returns-2
     returns-3)

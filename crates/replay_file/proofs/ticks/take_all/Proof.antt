@@ -1,75 +1,89 @@
+-- The loop's invariant: what is left to take, from the present run on, gives what all gives.
+use Prim.Native.Nat.{ℕ, _+_, _-_, _≤_, _<_}
+use mathlib.Core.Path.{_≡_, refl, sym, _∙_}
+use mathlib.Core.Bool.{true≢false}
+use mathlib.Core.List.{List}
+use native.Mathlib.Omega.{arith}
+use lib.ListN.{length, drop, length-drop, drop-of-length-le}
+use denote.Ref.{now}
+use mir.Val.{Fits}
+use mir.Syntax.{w64}
+use Rattle.replay_file.proofs.PartLaws.{rest, part-taken}
+use borrow.Author.Needs.{needs}
+use Rattle.replay_lines.specs.Replay.{runAfter}
 use Rattle.replay_file.proofs.ticks.take_all.Statement.{statement}
 use Rattle.replay_file.proofs.ticks.take_all.Tie as tie
-use Rattle.replay_file.proofs.ticks.take_all.Reads as reads
-use Rattle.replay_file.proofs.ticks.take_all.Lts as lts
-use Rattle.replay_lines.proofs.take.Reads as take-reads
-use Rattle.site_program.proofs.write_out.Reads as write-out-reads
 
 abbrev Inv-loop : tie.InvT-loop
-Inv-loop site bytes out₀ run₀ from₀ out run from = ?
+Inv-loop site bytes out₀ run₀ from₀ out run from = (from ≤ length bytes) × (length out ≡ length out₀) × (runAfter site (drop from bytes) run ≡ runAfter site bytes run₀)
 
 abbrev μ-loop : tie.MeasureT-loop
-μ-loop site bytes out₀ run₀ from₀ out run from = ?
+μ-loop site bytes out₀ run₀ from₀ out run from = length bytes - from
 
--- src/ticks.rt:15:5
+-- Behind a call of take.
+module _ (c : tie.After-take Inv-loop μ-loop) where
+  abbrev looped : tie.At-loop Inv-loop μ-loop
+  looped = c .before .before .before .before
+
+  abbrev all : List ℕ
+  all = now (looped .before .before .before .args .bytes)
+
+  within : looped .loop .from + c .take .result .bytes ≤ length all
+  within = omega (arith, looped .loop .inv .0, length-drop (looped .loop .from) all, rw (rest all (looped .loop .from)) at (c .take .ensures .1 .1 .0))
+
+  here : looped .loop .from < length all
+  here = search needs
+
+  some : 0 < c .take .result .bytes
+  some =
+      c .take .ensures .1 .1 .1 (omega (arith, looped .loop .inv .1, looped .before .before .before .pre))
+      (rw (rest all (looped .loop .from)) (omega (arith, length-drop (looped .loop .from) all, here)))
+
+  fits : Fits w64 (looped .loop .from + c .take .result .bytes)
+  fits = search (needs, within)
+
+  going : runAfter (looped .before .before .before .args .site) (drop (looped .loop .from + c .take .result .bytes) all) (c .take .result .run)
+      ≡ runAfter (looped .before .before .before .args .site) all (looped .before .before .before .args .first)
+  going = part-taken (looped .before .before .before .args .site) all (looped .loop .from) (c .take .result .bytes) (looped .loop .run) (c .take .result .run) (rw (rest all (looped .loop .from)) at (c .take .ensures .0)) ∙ looped .loop .inv .2
+
 loop-holds : tie.Need-loop-holds Inv-loop μ-loop
-loop-holds c = ?
+loop-holds c = (search needs, search needs, refl)
 
--- src/ticks.rt:16:51
 sub-take : tie.Need-sub-take Inv-loop μ-loop
-sub-take c = ?
+sub-take c = search needs
 
--- src/ticks.rt:16:51
 part-take-start : tie.Need-part-take-start Inv-loop μ-loop
-part-take-start c = ?
+part-take-start c = search needs
 
--- src/ticks.rt:16:51
 part-take-end : tie.Need-part-take-end Inv-loop μ-loop
-part-take-end c = ?
+part-take-end c = search needs
 
--- src/ticks.rt:16:13
 take-requires : tie.Need-take-requires Inv-loop μ-loop
-take-requires c κs = ?
+take-requires c κs = search needs
 
--- src/ticks.rt:18:13
-write-out-requires : tie.Need-write-out-requires Inv-loop μ-loop
-write-out-requires c κs = ?
+write-front-requires : tie.Need-write-front-requires Inv-loop μ-loop
+write-front-requires c κs = search needs
 
--- src/ticks.rt:19:13
 same-length : tie.Need-same-length Inv-loop μ-loop
-same-length c = ?
+same-length c = search needs
 
--- src/ticks.rt:19:13
 returns : tie.Need-returns Inv-loop μ-loop
-returns c = ?
+returns c = λ h. absurd (true≢false (sym h))
 
--- src/ticks.rt:22:13
-same-length-2 : tie.Need-same-length-2 Inv-loop μ-loop
-same-length-2 c = ?
-
--- src/ticks.rt:22:13
-returns-2 : tie.Need-returns-2 Inv-loop μ-loop
-returns-2 c = ?
-
--- src/ticks.rt:24:9
 add-from : tie.Need-add-from Inv-loop μ-loop
-add-from c = ?
+add-from c = fits (c .before .before .before .before .before .before .before)
 
--- src/ticks.rt:15:5
 loop-less : tie.Need-loop-less Inv-loop μ-loop
-loop-less c = ?
+loop-less c = omega (arith, within (c .before .before .before .before .before .before .before), some (c .before .before .before .before .before .before .before))
 
--- src/ticks.rt:15:5
 loop-again : tie.Need-loop-again Inv-loop μ-loop
-loop-again c = ?
+loop-again c = (within (c .before .before .before .before .before .before .before), search needs, going (c .before .before .before .before .before .before .before))
 
--- src/ticks.rt:12:1
-same-length-3 : tie.Need-same-length-3 Inv-loop μ-loop
-same-length-3 c = ?
+same-length-2 : tie.Need-same-length-2 Inv-loop μ-loop
+same-length-2 c = search needs
 
--- src/ticks.rt:12:1
-returns-3 : tie.Need-returns-3 Inv-loop μ-loop
-returns-3 c = ?
+returns-2 : tie.Need-returns-2 Inv-loop μ-loop
+returns-2 c = λ _. rw (drop-of-length-le (now (c .before .before .before .before .before .args .bytes)) {i = c .before .before .loop .from} (search needs)) at (c .before .before .loop .inv .2)
 
 pub take-all-spec : {M : Type 1} → statement M
 take-all-spec =
@@ -82,13 +96,11 @@ take-all-spec =
     part-take-start
     part-take-end
     take-requires
-    write-out-requires
+    write-front-requires
     same-length
     returns
-    same-length-2
-    returns-2
     add-from
     loop-less
     loop-again
-    same-length-3
-    returns-3)
+    same-length-2
+    returns-2)
