@@ -1,15 +1,16 @@
 -- Bounds of a date's numbers, of the table of days before each month, and of a month's length.
-use Prim.Native.Nat.{ℕ, _+_, _-_, _≤_, _<_}
-use mathlib.Core.Path.{_≡_, refl}
-use mathlib.Core.Bool.{Bool, true, false, cond, _&&_}
+use Prim.Native.Nat.{ℕ, zero, suc, _+_, _-_, _≤_, _<_}
+use mathlib.Core.Path.{_≡_, refl, sym, _∙_}
+use mathlib.Core.Bool.{Bool, true, false, cond, _&&_, true≢false}
 use native.Mathlib.Omega.{arith}
-use borrow.Author.Tests.{leb-true, leb-false, ltb-true}
+use borrow.Author.Tests.{leb-true, leb-false, ltb-true, lt-ltb}
 use lib.Dec.{leb, ltb}
-use lib.ListN.{getD}
+use lib.ListN.{getD, List·getD-eq-default}
+use Rattle.loops.proofs.Cases.{by-test}
 use Rattle.numbers.specs.Within.{between, isWithin}
-use Rattle.numbers.proofs.WithinLaws.{ends}
+use Rattle.numbers.proofs.WithinLaws.{ends, inside}
 use Rattle.calendar.specs.declared.day.Date.{Date}
-use Rattle.calendar.specs.Dates.{table, isLeap, daysBefore, monthLength, isDate, dayNumber, weekdayOf}
+use Rattle.calendar.specs.Dates.{table, isLeap, daysBefore, monthLength, months, isDate, dayNumber, weekdayOf}
 use Rattle.calendar.specs.Days.{monthBefore}
 use Rattle.calendar.proofs.Below.{and-left, and-right, below}
 
@@ -62,6 +63,24 @@ length-least y m l h =
     let e : m - 1 + 1 ≡ m = omega arith in
     let rises : daysBefore y m < daysBefore y (m + 1) = ltb-true _ _ (rw e at (all-days (isLeap y) (m - 1) (omega arith))) in
     omega (arith, rises)
+
+-- A month that there is not has no day.
+none-first : (leap : Bool) → before leap 1 - before leap 0 ≡ 0
+none-first true = refl
+none-first false = refl
+
+none-beyond : (leap : Bool) (m : ℕ) → 12 < m → before leap (m + 1) - before leap m ≡ 0
+none-beyond leap m h =
+    let e = List·getD-eq-default table 0 {n = m + 1 - 1} (omega arith) in
+    rw (e, lt-ltb 2 (m + 1) (omega arith), lt-ltb 2 m (omega arith)) (omega arith)
+
+pub no-days : (y m : ℕ) → isWithin months m ≡ false → monthLength y m ≡ 0
+unfolding monthLength daysBefore
+no-days y zero e = none-first (isLeap y)
+no-days y (suc m) e =
+    by-test (leb (suc m) 12)
+    (λ h. absurd (true≢false (sym (inside months (suc m) (omega arith) (leb-true (suc m) 12 h)) ∙ e)))
+    (λ h. none-beyond (isLeap y) (suc m) (leb-false (suc m) 12 h))
 
 pub record Bounds (date : Date) : Type 0 where
   pub year-low : 2000 ≤ date .year

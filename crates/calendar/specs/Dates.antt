@@ -5,6 +5,7 @@ use mathlib.Core.Bool.{Bool, cond, _&&_}
 use mathlib.Core.List.{List, [], _∷_}
 use lib.Dec.{ltb, eqb}
 use lib.ListN.{getD}
+use Rattle.numbers.specs.declared.Range.{Range}
 use Rattle.numbers.specs.Within.{between, isWithin}
 use Rattle.calendar.specs.declared.day.Date.{Date}
 
@@ -23,12 +24,20 @@ daysBefore year month = getD table (month - 1) 0 + cond (isLeap year && ltb 2 mo
 unfoldable pub monthLength : ℕ → ℕ → ℕ
 monthLength year month = daysBefore year (month + 1) - daysBefore year month
 
+-- "Year 2000-2099."
+abbrev pub years : Range
+years = between 2000 2099
+
+abbrev pub months : Range
+months = between 1 12
+
+-- The days of a month; a month that there is not has none.
+abbrev pub daysOf : ℕ → ℕ → Range
+daysOf year month = between 1 (monthLength year month)
+
 -- "Year 2000-2099, a true date."
 unfoldable pub isDate : Date → Bool
-isDate date =
-    isWithin (between 2000 2099) (date .year)
-    && isWithin (between 1 12) (date .month)
-    && isWithin (between 1 (monthLength (date .year) (date .month))) (date .day)
+isDate date = isWithin years (date .year) && isWithin months (date .month) && isWithin (daysOf (date .year) (date .month)) (date .day)
 
 -- Days from 1 January 2000: those of the years before, one more for each leap year among them, and those of its own year.
 unfoldable pub dayNumber : Date → ℕ

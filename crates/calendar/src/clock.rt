@@ -12,7 +12,7 @@ pub struct Clock {
 // No such date or tenth.
 pub const BAD_CLOCK: u8 = 8;
 
-const LAST_TENTH: u32 = 863999;
+pub const LAST_TENTH: u32 = 863999;
 
 // Whether there is no such date or tenth.
 pub fn clock_bad(clock: Clock) -> bool

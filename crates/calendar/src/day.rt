@@ -2,7 +2,7 @@
 ghost use mathlib.Core.Path.{_≡_};
 ghost use mathlib.Core.Bool.{true};
 ghost use Prim.Native.Nat.{_≤_};
-ghost use Rattle.calendar.specs.Dates.{daysBefore, monthLength, isDate, dayNumber, weekdayOf};
+ghost use Rattle.calendar.specs.Dates.{daysBefore, monthLength, daysOf, isDate, dayNumber, weekdayOf};
 ghost use Rattle.calendar.specs.Days.{inMonth, monthBefore, todayOf, yesterdayOf};
 use numbers::Range;
 
@@ -28,12 +28,12 @@ const FIRST_YEAR: u16 = 2000;
 
 const DECEMBER: u16 = 12;
 
-const YEARS: Range = Range {
+pub const YEARS: Range = Range {
     low: FIRST_YEAR,
     high: 2099,
 };
 
-const MONTHS: Range = Range {
+pub const MONTHS: Range = Range {
     low: 1,
     high: DECEMBER,
 };
@@ -74,6 +74,19 @@ fn month_length(year: u16, month: u16) -> u16
     days_before(year, month + 1) - days_before(year, month)
 }
 
+// The days of a month; a month that there is not has none.
+pub fn days(year: u16, month: u16) -> Range
+    ensures { λ r. ⌜ r ≡ daysOf year month ⌝ }
+{
+    if !numbers::within(MONTHS, month) {
+        return Range { low: 1, high: 0 };
+    }
+    Range {
+        low: 1,
+        high: month_length(year, month),
+    }
+}
+
 // Whether there is such a date.
 pub fn is_date(date: Date) -> bool
     ensures { λ r. ⌜ r ≡ isDate date ⌝ }
@@ -84,11 +97,7 @@ pub fn is_date(date: Date) -> bool
     if !numbers::within(MONTHS, date.month) {
         return false;
     }
-    let days = Range {
-        low: 1,
-        high: month_length(date.year, date.month),
-    };
-    numbers::within(days, date.day)
+    numbers::within(days(date.year, date.month), date.day)
 }
 
 // Days from 1 January 2000.

@@ -7,8 +7,12 @@ ghost use mathlib.Core.Path.{_≡_};
 ghost use Rattle.calendar.specs.Holidays.{rowOf, isFixed, inWeek, isNamed, isHoliday, dayTypeOf};
 pub use clock::BAD_CLOCK;
 pub use clock::Clock;
+pub use clock::LAST_TENTH;
 pub use clock::clock_bad;
 pub use day::Date;
+pub use day::MONTHS;
+pub use day::YEARS;
+pub use day::days;
 pub use day::is_date;
 
 // The day type of a holiday; those of the other days are their weekdays, 0 Sunday to 6 Saturday.

@@ -69,7 +69,7 @@ pub struct MeteredSample {
 }
 
 // Metered lane i's samples; all 0 past the fourth.
-fn metered_sample(s: Metered, i: u16) -> MeteredSample
+pub fn metered_sample(s: Metered, i: u16) -> MeteredSample
     ensures { λ r. ⌜ r ≡ meteredSampleOf s i ⌝ }
 {
     let k = i as usize;

@@ -1,8 +1,6 @@
 -- The code asks of year, month and day in turn what the definition asks.
 use mathlib.Core.Path.{sym, _∙_}
 use borrow.Author.Tests.{not-true, not-false}
-use Rattle.numbers.specs.Within.{between}
-use Rattle.numbers.proofs.WithinLaws.{ends}
 use Rattle.calendar.specs.Dates.{isDate}
 use borrow.Author.Needs.{needs}
 use Rattle.calendar.proofs.day.is_date.Statement.{statement}
@@ -22,8 +20,8 @@ returns-2 : tie.Need-returns-2
 unfolding isDate
 returns-2 c = rw (sym (c .before .before .before .within .ensures) ∙ not-false _ (c .before .before .if1 .left), sym (c .before .within2 .ensures) ∙ not-true _ (c .if2 .taken))
 
-month-length-requires : tie.Need-month-length-requires
-month-length-requires c κs = let e = sym (c .before .within2 .ensures) ∙ not-false _ (c .if2 .left) in ends (between 1 12) _ e
+days-requires : tie.Need-days-requires
+days-requires c κs = search needs
 
 within-requires-3 : tie.Need-within-requires-3
 within-requires-3 c κs = search needs
@@ -34,7 +32,7 @@ returns-3 c =
     rw (
       sym (c .before .before .before .before .before .within .ensures) ∙ not-false _ (c .before .before .before .before .if1 .left),
       sym (c .before .before .before .within2 .ensures) ∙ not-false _ (c .before .before .if2 .left),
-      ← c .before .month-length .ensures,
+      ← c .before .days .ensures,
     )
     (c .within3 .ensures)
 
@@ -46,6 +44,6 @@ is-date-spec =
     returns
     within-requires-2
     returns-2
-    month-length-requires
+    days-requires
     within-requires-3
     returns-3)
