@@ -60,6 +60,22 @@ fn read_some(site: Site, run: Run, fd: i32, bytes: &mut [u8], out: &mut [u8]) ->
     take_all(site, run, &bytes[..n], out)
 }
 
+// Says what is wrong with the first refused tick, where it is one of those just read.
+fn explain_first(errors: i32, site: Site, earlier: Run, run: Run) {
+    let known = earlier.refused;
+    if known.line != 0 {
+        return;
+    }
+    let refused = run.refused;
+    if refused.line == 0 {
+        return;
+    }
+    let input = refused.input;
+    let mut text = io::buffer();
+    let n = tick_diagnosis::put_diagnosis(&mut text, 0, refused.line, site::shape_of(site), input);
+    site_program::write_error(errors, &text, n);
+}
+
 // Reads ticks until they end or a line is no tick. All answers are written before the next read.
 pub fn replay_at(site: Site, fd: i32, errors: i32) {
     let mut space = io::large_buffer();
@@ -78,6 +94,8 @@ pub fn replay_at(site: Site, fd: i32, errors: i32) {
         }
         let run = going.run;
         going = read_some(site, run, fd, bytes, out);
+        let read = going.run;
+        explain_first(errors, site, run, read);
         left -= 1;
     }
 }

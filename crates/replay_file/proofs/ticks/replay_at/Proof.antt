@@ -42,6 +42,9 @@ returns c = search needs
 read-some-requires : tie.Need-read-some-requires Inv-loop μ-loop
 read-some-requires c κs = search needs
 
+explain-first-requires : tie.Need-explain-first-requires Inv-loop μ-loop
+explain-first-requires c κs = search needs
+
 sub-left : tie.Need-sub-left Inv-loop μ-loop
 sub-left c = search needs
 
@@ -70,6 +73,7 @@ replay-at-spec =
     loop-holds
     returns
     read-some-requires
+    explain-first-requires
     sub-left
     loop-less
     loop-again
