@@ -3,8 +3,7 @@
 use Prim.Native.Nat.{ℕ, zero, suc, _+_, _-_}
 use mathlib.Core.Path.{_≡_, refl, ap, sym, _∙_}
 use mathlib.Core.Bool.{Bool, true, false, cond, not, _&&_, _||_}
-use native.Mathlib.Omega.{arith}
-use borrow.Author.Tests.{leb-true, leb-false, lt-ltb, le-ltb, eqb-true, eq-eqb}
+use borrow.Author.Tests.{leb-true, leb-false, lt-ltb, le-ltb, eqb-true}
 use lib.Dec.{leb, ltb, eqb}
 use Rattle.loops.proofs.Cases.{by-test}
 use Rattle.loops.specs.Any.{anyFrom}
@@ -24,7 +23,7 @@ use Rattle.inputs.specs.Commands.{kinds, carriesNothing, commandBad, commandsBa
 use Rattle.tick.specs.declared.Input.{Input}
 use Rattle.tick.specs.Checks.{inputRefusal}
 use Rattle.tick_diagnosis.specs.declared.number.Part.{Part}
-use Rattle.tick_diagnosis.specs.declared.number.Part.the-variants.{TheClock, MeteredLane, MainlineLane, Manual, Communications}
+use Rattle.tick_diagnosis.specs.declared.number.Part.the-variants.{Manual, Communications}
 use Rattle.tick_diagnosis.specs.declared.number.Number.{Number}
 use Rattle.tick_diagnosis.specs.Numbers.{numberOf, firstOf, firstFrom, inClock, inMetered, inMainline, modeOf, inCommand, inLanes, firstBad}
 use Rattle.tick_diagnosis.specs.Names.{refusalOf}

@@ -31,7 +31,7 @@ abbrev pub firstFrom : (ℕ → Number) → ℕ → ℕ → Number → Number
 firstFrom f i zero rest = rest
 firstFrom f i (suc k) rest = firstOf (f i) (firstFrom f (i + 1) k rest)
 
--- Year, month, day, tenth.
+-- Of a part's numbers the first that is out of range; where none is, the last. The clock: year, month, day, tenth.
 unfoldable pub inClock : Clock → Number
 inClock c =
     firstOf (numberOf TheClock 0 (c .date .year) years)
@@ -39,11 +39,11 @@ inClock c =
     (firstOf (numberOf TheClock 2 (c .date .day) (daysOf (c .date .year) (c .date .month)))
     (numberOf TheClock 3 (c .tenth) tenths)))
 
--- Demand, passage.
+-- A metered lane: demand, passage.
 unfoldable pub inMetered : ℕ → MeteredSample → Number
 inMetered i s = firstOf (numberOf (MeteredLane i) 0 (s .demand) flags) (numberOf (MeteredLane i) 1 (s .passage) flags)
 
--- Working, occupied, vehicles, speed.
+-- A mainline lane: working, occupied, vehicles, speed.
 unfoldable pub inMainline : ℕ → LaneSample → Number
 inMainline j s =
     firstOf (numberOf (MainlineLane j) 0 (s .working) flags)
@@ -55,7 +55,7 @@ inMainline j s =
 unfoldable pub modeOf : ℕ → ℕ
 modeOf kind = kind - 1
 
--- Kind, rate, table.
+-- A command: kind, rate, table.
 unfoldable pub inCommand : Part → Command → Number
 inCommand part c =
     firstOf (numberOf part 0 (c .kind) kinds)

@@ -51,6 +51,7 @@ const KINDS: Range = Range {
     high: inputs::RESPONSIVE,
 };
 
+// Whether a number is below or above its range.
 fn outside(x: u64, low: u64, high: u64) -> bool
     ensures { λ r. ⌜ r ≡ not (isWithin (between low high) x) ⌝ }
 {
@@ -63,6 +64,7 @@ fn outside(x: u64, low: u64, high: u64) -> bool
     false
 }
 
+// A number with its range. The tenth of the day takes more than two bytes.
 fn long_number(part: Part, column: usize, x: u64, low: u64, high: u64) -> Number
     ensures { λ r. ⌜ r ≡ numberOf part column x (between low high) ⌝ }
 {
@@ -76,6 +78,7 @@ fn long_number(part: Part, column: usize, x: u64, low: u64, high: u64) -> Number
     }
 }
 
+// The same of two bytes.
 fn number_of(part: Part, column: usize, x: u16, range: Range) -> Number
     ensures { λ r. ⌜ r ≡ numberOf part column x range ⌝ }
 {
@@ -89,6 +92,7 @@ fn first(a: Number, rest: Number) -> Number
     if a.bad { a } else { rest }
 }
 
+// Of a part's numbers the first that is out of range; where none is, the last.
 fn in_clock(clock: Clock) -> Number
     ensures { λ r. ⌜ r ≡ inClock clock ⌝ }
 {
