@@ -1,7 +1,7 @@
 // Runs a whole day of ticks, one after the other from power-up, at the site whose file is standard
 // input. Prints how many were accepted, the lanes released, the periods polled, and a checksum of
-// all that the driver and the control centre see; of a refused file why and where. With an argument,
-// the samples alone are made.
+// all that the driver and the control centre see; of a refused file why and where, and in words on
+// standard error. With an argument, the samples alone are made.
 mod random;
 
 use calendar::Clock;
@@ -10,6 +10,7 @@ use group::Indications;
 use inputs::Command;
 use inputs::Mainline;
 use inputs::Metered;
+use libc::STDERR_FILENO;
 use libc::STDIN_FILENO;
 use libc::STDOUT_FILENO;
 use site::Site;
@@ -213,6 +214,7 @@ fn main() {
     let read = site_reader::read(&file[..n]);
     if read.refusal != 0 {
         test_output::print_refusal(read.refusal, read.place);
+        site_program::explain(STDERR_FILENO, b"standard input", &file[..n]);
         return;
     }
     let site = read.site;

@@ -12,7 +12,7 @@
 //! - `timetable FILE [NAME]`: what the timetable program prints of a file, and on standard error why it is refused, as a file of that name.
 //! - `replay FILE [NAME]`: what the replay program prints of a site file and the ticks on standard input, and what it explains.
 //! - `replay-ticks`: the ticks of `crates/replay`.
-//! - `replay-cases stdout`: what `crates/replay_cases` prints.
+//! - `replay-cases stdin`, `replay-cases stdout`: the runs of `crates/replay_cases`, and what it prints.
 //! - `replay-files FOLDER`: the files that it reads.
 //! - `paper-site`: the site file of `crates/timetable`.
 //! - `timetable-cases stdout`: what `crates/timetable_cases` prints.
@@ -156,6 +156,7 @@ fn main() -> Result<()> {
         ["replay", file] => replay(file, "site.bin"),
         ["replay", file, name] => replay(file, name),
         ["replay-ticks"] => out.write_all(replay_files::ticks().as_bytes()),
+        ["replay-cases", "stdin"] => out.write_all(replay_files::list().as_bytes()),
         ["replay-cases", "stdout"] => out.write_all(replay_files::answers().as_bytes()),
         ["replay-files", folder] => replay_files::write(folder),
         ["paper-site"] => out.write_all(&site::bytes(&timetable_files::paper())),

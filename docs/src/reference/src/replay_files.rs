@@ -160,6 +160,11 @@ pub fn write(folder: &str) -> Result<()> {
     files().iter().try_for_each(|(name, file)| std::fs::write(format!("{folder}/{name}"), file))
 }
 
+/// The test program's standard input: a line for each run, the site file's name and the ticks' file's.
+pub fn list() -> String {
+    runs().into_iter().map(|run| format!("{} {}\n", run.site, run.name)).collect()
+}
+
 /// What the test program prints: of each run its names, its output and, behind that, what it explains.
 pub fn answers() -> String {
     let sites = sites();
