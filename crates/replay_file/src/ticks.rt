@@ -28,10 +28,8 @@ fn take_all(site: Site, first: Run, bytes: &[u8], out: &mut [u8]) -> Going
         }
         from += taken.bytes;
     }
-    Going {
-        run,
-        on: !run.ended,
-    }
+    let more = !run.ended;
+    Going { run, on: more }
 }
 
 // The end of the ticks; a last line may lack its newline.
