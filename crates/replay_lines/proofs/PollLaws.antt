@@ -23,8 +23,7 @@ use Rattle.tick.specs.Tick.{countedIn, acceptedTick, refusedTick, tickOf}
 use Rattle.tick.proofs.TickLaws.{accepted, tick-keeps}
 use Rattle.poll.specs.Poll.{pollOf, refusalOf}
 use Rattle.poll.proofs.PollLaws.{length-poll, site-sound}
-use Rattle.tick_text.specs.Lines.{pollLine}
-use Rattle.replay_lines.specs.Answer.{completes, polledText}
+use Rattle.replay_lines.specs.Answer.{completes, polledText, PeriodPolled}
 
 front-case : (earlier : ℕ) (text d : List ℕ) (b : Bool) → eqb earlier 0 ≡ b → (earlier ≡ 0 → length text ≤ length d)
     → take (answerOf earlier text d .count) (bufferOf earlier text d) ≡ cond (eqb earlier 0) text []
@@ -86,7 +85,6 @@ module _ (x : Site) (s : State) (i : Input) where
   pub period-polled : completes (tickOf x s i) ≡ true → refusalOf x (tickOf x s i .state) ≡ 0
   period-polled h = completed-case _ _ refl refl h
 
-  -- Its poll's line is the record's.
-  pub period-line : completes (tickOf x s i) ≡ true → polledText x (tickOf x s i .state) ≡ pollLine (pollOf x (tickOf x s i .state))
-  unfolding polledText
-  period-line h = rw (eq-eqb (refusalOf x (tickOf x s i .state)) 0 (period-polled h))
+pub periods-polled : (x : Site) → PeriodPolled x
+unfolding PeriodPolled polledText
+periods-polled x s i h = rw (eq-eqb (refusalOf x (tickOf x s i .state)) 0 (period-polled x s i h))
