@@ -1,16 +1,17 @@
 -- No text is longer than the longest: on a day type an entry has one line at the most, and that has 26 bytes at the most, in places 1 to 9
 -- 25.
-use Prim.Native.Nat.{ℕ, zero, suc, _+_, _-_, _*_, _/_, _^_, _≤_, _<_}
-use mathlib.Core.Path.{_≡_, refl, sym}
-use mathlib.Core.Bool.{Bool, true, false, cond, true≢false}
-use mathlib.Core.List.{List, [], _∷_}
+use Prim.Native.Nat.{ℕ, zero, suc, _+_, _-_, _*_, _^_, _≤_, _<_}
+use mathlib.Core.Path.{_≡_, refl}
+use mathlib.Core.Bool.{Bool, true, false, cond}
+use mathlib.Core.List.{List, []}
 use native.Mathlib.Omega.{arith}
-use borrow.Author.Tests.{ltb-true, ltb-false, eqb-true, eqb-false, leb-true}
-use lib.Dec.{ltb, leb, eqb}
-use lib.ListN.{length, getD, length-append}
-use Rattle.text.specs.Ascii.{ascii}
-use Rattle.text.specs.Decimal.{digitsIn, decimal}
-use Rattle.phrases.specs.Phrases.{dayNames, dayName, refusalLine}
+use borrow.Author.Tests.{ltb-true, eqb-true, eqb-false}
+use lib.Dec.{ltb, eqb}
+use lib.ListN.{length, length-append}
+use Rattle.text.specs.Decimal.{decimal}
+use Rattle.text.proofs.DecimalLaws.{tens, decimal-most}
+use Rattle.phrases.specs.Phrases.{refusalLine}
+use Rattle.phrases.proofs.DayNames.{name-most, day-name-most}
 use Rattle.plan.specs.declared.Entry.{Entry}
 use Rattle.plan.specs.Entry.{entryOf, onDay}
 use Rattle.site.specs.declared.Site.{Site}
@@ -18,45 +19,6 @@ use Rattle.site.specs.declared.ReadSite.{ReadSite}
 use Rattle.site.specs.Record.{spoiltSite}
 use Rattle.site.proofs.RowLaws.{entries-most, entry-rate-most, entry-table-most}
 use Rattle.listing.specs.Timetable.{modeNames, modeName, lineOf, lineIf, startingAt, minutesFrom, daysFrom, timetableOf, printedOf, longestText}
-
--- A number below 10, 100, .. has one digit, two, ..
-abbrev tens : ℕ → ℕ
-tens zero = 10
-tens (suc k) = tens k * 10
-
-digits-more : (k n steps : ℕ) (small : Bool) → ltb n 10 ≡ small → n < tens k
-    → ((k n : ℕ) → n < tens k → length (digitsIn steps n) ≤ suc k)
-    → length (digitsIn (suc steps) n) ≤ suc k
-digits-more k n steps true e h rest = rw e (omega arith)
-digits-more zero n steps false e h rest = absurd (omega (arith, ltb-false n 10 e))
-digits-more (suc k) n steps false e h rest =
-    rw (e, length-append) (omega (arith, rest k (n / 10) (omega arith)))
-
-digits-most : (steps k n : ℕ) → n < tens k → length (digitsIn steps n) ≤ suc k
-digits-most zero k n h = omega arith
-digits-most (suc steps) k n h = digits-more k n steps _ refl h (digits-most steps)
-
-decimal-most : (k n : ℕ) → n < tens k → length (decimal n) ≤ suc k
-unfolding decimal
-decimal-most k n h = digits-most (suc n) k n h
-
--- A name of a table, or what stands for a place beyond it, is no longer than the longest.
-abbrev allShort : ℕ → List (List ℕ) → Bool
-allShort k [] = true
-allShort k (x ∷ xs) = cond (leb (length x) k) (allShort k xs) false
-
-short-case : (k : ℕ) (x : List ℕ) (xs : List (List ℕ)) (b : Bool) → leb (length x) k ≡ b → allShort k (x ∷ xs) ≡ true → (length x ≤ k) × (allShort k xs ≡ true)
-short-case k x xs true e h = (leb-true (length x) k e, rw e at h)
-short-case k x xs false e h = absurd (true≢false (sym (rw e at h)))
-
-name-most : (k : ℕ) (beyond : List ℕ) (names : List (List ℕ)) → length beyond ≤ k → allShort k names ≡ true → (i : ℕ) → length (getD names i beyond) ≤ k
-name-most k beyond [] h e i = h
-name-most k beyond (x ∷ xs) h e zero = short-case k x xs _ refl e .0
-name-most k beyond (x ∷ xs) h e (suc i) = name-most k beyond xs h (short-case k x xs _ refl e .1) i
-
-day-name-most : (day : ℕ) → length (dayName day) ≤ 3
-unfolding dayName
-day-name-most day = name-most 3 (ascii "-") dayNames (omega arith) refl day
 
 mode-name-most : (mode : ℕ) → length (modeName mode) ≤ 5
 unfolding modeName

@@ -1,8 +1,11 @@
--- Each of the eight days has a name of three letters; any other day is a dash.
+-- Each of the eight days has a name of three letters; any other day is a dash. And how long a name of a table is at most.
 use Prim.Native.Nat.{ℕ, zero, suc, _≤_, _<_}
-use mathlib.Core.Path.{_≡_, refl}
+use mathlib.Core.Path.{_≡_, refl, sym}
+use mathlib.Core.Bool.{Bool, true, false, cond, true≢false}
 use mathlib.Core.List.{List, [], _∷_}
 use native.Mathlib.Omega.{arith}
+use borrow.Author.Tests.{leb-true}
+use lib.Dec.{leb}
 use lib.ListN.{length, getD, List·getD-eq-default}
 use Rattle.text.specs.Ascii.{ascii}
 use Rattle.phrases.specs.Phrases.{dayNames, dayName}
@@ -31,3 +34,21 @@ three-letters (suc (suc (suc (suc (suc (suc (suc (suc d)))))))) h = absurd (omeg
 pub no-name : (d : ℕ) → 8 ≤ d → dayName d ≡ ascii "-"
 unfolding dayName
 no-name d h = List·getD-eq-default dayNames (ascii "-") {n = d} h
+
+-- A name of a table, or what stands for a place beyond it, is no longer than the longest.
+abbrev pub allShort : ℕ → List (List ℕ) → Bool
+allShort k [] = true
+allShort k (x ∷ xs) = cond (leb (length x) k) (allShort k xs) false
+
+short-case : (k : ℕ) (x : List ℕ) (xs : List (List ℕ)) (b : Bool) → leb (length x) k ≡ b → allShort k (x ∷ xs) ≡ true → (length x ≤ k) × (allShort k xs ≡ true)
+short-case k x xs true e h = (leb-true (length x) k e, rw e at h)
+short-case k x xs false e h = absurd (true≢false (sym (rw e at h)))
+
+pub name-most : (k : ℕ) (beyond : List ℕ) (names : List (List ℕ)) → length beyond ≤ k → allShort k names ≡ true → (i : ℕ) → length (getD names i beyond) ≤ k
+name-most k beyond [] h e i = h
+name-most k beyond (x ∷ xs) h e zero = short-case k x xs _ refl e .0
+name-most k beyond (x ∷ xs) h e (suc i) = name-most k beyond xs h (short-case k x xs _ refl e .1) i
+
+pub day-name-most : (day : ℕ) → length (dayName day) ≤ 3
+unfolding dayName
+day-name-most day = name-most 3 (ascii "-") dayNames (omega arith) refl day

@@ -1,2 +1,3 @@
+pub mod LengthLaws
 pub mod PollLaws
 pub mod ReplayLaws

@@ -1,12 +1,15 @@
 -- What a tick adds to a replay's output.
 use Prim.Native.Nat.{ℕ}
-use mathlib.Core.Bool.{Bool, cond, _&&_}
+use mathlib.Core.Path.{_≡_}
+use mathlib.Core.Bool.{Bool, true, cond, _&&_}
 use mathlib.Core.List.{List, [], _++_}
 use lib.Dec.{eqb}
 use Rattle.site.specs.declared.Site.{Site}
 use Rattle.site.specs.Named.{meteredLanes}
 use Rattle.state.specs.declared.State.{State}
+use Rattle.tick.specs.declared.Input.{Input}
 use Rattle.tick.specs.declared.Ticked.{Ticked}
+use Rattle.tick.specs.Tick.{tickOf}
 use Rattle.poll.specs.Poll.{pollOf, refusalOf}
 use Rattle.tick_text.specs.Lines.{tickLine, pollLine}
 
@@ -14,9 +17,15 @@ use Rattle.tick_text.specs.Lines.{tickLine, pollLine}
 unfoldable pub completes : Ticked → Bool
 completes t = eqb (t .refusal) 0 && eqb (t .state .periods .ticks) 0
 
--- The poll record's line; behind a completed period the poll is never refused (law `period-polled`).
+-- The poll record's line; behind a completed period the poll is never refused (`PeriodPolled`).
 unfoldable pub polledText : Site → State → List ℕ
 polledText x s = pollLine (cond (eqb (refusalOf x s) 0) (pollOf x s) [])
+
+-- Whatever state and input a tick is given: if it completes a period, the poll's line has the record of its state.
+unfoldable pub PeriodPolled : Site → Type 0
+PeriodPolled x =
+    (s : State) (i : Input) → completes (tickOf x s i) ≡ true
+    → polledText x (tickOf x s i .state) ≡ pollLine (pollOf x (tickOf x s i .state))
 
 -- The tick's line, and the poll's where the tick completed a period.
 unfoldable pub answerText : Site → ℕ → Ticked → List ℕ

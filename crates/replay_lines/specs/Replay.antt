@@ -85,6 +85,6 @@ lastRun x run = cond (run .ended) run (cond (run .begun) (afterLine run (lineOf 
 unfoldable pub replayText : Site → List ℕ → List ℕ
 replayText x input = headingLine ++ (outputOf x input (startOf x) ++ lastText x (runAfter x input (startOf x)))
 
--- More bytes than a line adds: law `line-fits`.
+-- No line adds more bytes.
 abbrev pub longestAnswer : ℕ
 longestAnswer = 512

@@ -1,7 +1,10 @@
 // What a tick's end adds to the output: the tick's line, and the poll's.
 ghost use mathlib.Core.Path.{_≡_};
+ghost use Prim.Native.Nat.{_≤_};
+ghost use lib.ListN.{length};
 ghost use Rattle.text.specs.Put.{Put};
 ghost use Rattle.replay_lines.specs.Answer.{completes, polledText, answerText};
+ghost use Rattle.replay_lines.specs.Replay.{longestAnswer};
 use site::Site;
 use state::State;
 use tick::Ticked;
@@ -31,7 +34,8 @@ fn completes(ticked: Ticked) -> bool
 }
 
 pub fn put_answer(out: &mut [u8], at: usize, site: Site, number: u64, ticked: Ticked) -> usize
-    ensures { λ r. ⌜ Put (now (out .entry)) at (answerText site number ticked) r (now (out .exit)) ⌝ }
+    ensures is { λ r. ⌜ Put (now (out .entry)) at (answerText site number ticked) r (now (out .exit)) ⌝ }
+    ensures short { λ _. ⌜ length (answerText site number ticked) ≤ longestAnswer ⌝ }
 {
     let end = tick_text::put_tick(out, at, number, site::shape_of(site).lanes, ticked);
     if !completes(ticked) {

@@ -1,6 +1,9 @@
 // The line that ends a replay: why a line is no tick.
+ghost use Prim.Native.Nat.{_≤_};
+ghost use lib.ListN.{length};
 ghost use Rattle.text.specs.Put.{Put};
 ghost use Rattle.replay_lines.specs.NoTick.{wordText, aboveText, noNumberText, emptyText, countText, reasonText, noTickLine};
+ghost use Rattle.replay_lines.specs.Replay.{longestAnswer};
 use tick_line::Verdict;
 
 fn put_word(out: &mut [u8], at: usize, word: u64) -> usize
@@ -55,7 +58,8 @@ fn put_reason(out: &mut [u8], at: usize, verdict: Verdict) -> usize
 
 // Line k is no tick, and why.
 pub fn put_no_tick(out: &mut [u8], at: usize, k: u64, verdict: Verdict) -> usize
-    ensures { λ r. ⌜ Put (now (out .entry)) at (noTickLine k verdict) r (now (out .exit)) ⌝ }
+    ensures is { λ r. ⌜ Put (now (out .entry)) at (noTickLine k verdict) r (now (out .exit)) ⌝ }
+    ensures short { λ _. ⌜ length (noTickLine k verdict) ≤ longestAnswer ⌝ }
 {
     let p = text::put_bytes(out, at, b"line ");
     let q = text::put_decimal(out, p, k);

@@ -5,6 +5,7 @@ ghost use Prim.Native.Nat.{_≤_, _<_, _+_};
 ghost use lib.Dec.{leb};
 ghost use lib.ListN.{length, take};
 ghost use Rattle.text.specs.Put.{Put};
+ghost use Rattle.replay_lines.specs.Answer.{PeriodPolled};
 ghost use Rattle.replay_lines.specs.Replay.{longestAnswer, noRefused, startOf, withScan, lineOf, lineText, noted, afterLine, outputOf, runAfter, lastText, lastRun};
 use crate::answer;
 use crate::no_tick;
@@ -49,7 +50,7 @@ pub struct Taken {
     pub text: usize,
 }
 
-// More bytes than a line adds to the output.
+// No line adds more bytes to the output.
 pub const LONGEST_ANSWER: usize = 512;
 
 fn no_refused() -> Refused
@@ -114,7 +115,8 @@ fn line_of(site: Site, run: Run) -> Line
 
 // What a line adds to the output.
 fn put_line(out: &mut [u8], at: usize, site: Site, line: Line) -> usize
-    ensures { λ r. ⌜ Put (now (out .entry)) at (lineText site line) r (now (out .exit)) ⌝ }
+    ensures is { λ r. ⌜ Put (now (out .entry)) at (lineText site line) r (now (out .exit)) ⌝ }
+    ensures short { λ _. ⌜ length (lineText site line) ≤ longestAnswer ⌝ }
 {
     let verdict = line.verdict;
     if tick_line::is_tick(verdict) {
@@ -186,12 +188,15 @@ fn has_room(size: usize, end: usize) -> bool
 }
 
 // Takes a part of the input's bytes, and writes what they add over the front of out. It stops before
-// a line whose answer might not fit.
+// a line whose answer might not fit, so that all that they add stands there. After a tick that
+// completes a period there is always a poll record.
 pub fn take(site: Site, first: Run, bytes: &[u8], out: &mut [u8]) -> Taken
     ensures is { λ r. ⌜ r .run ≡ runAfter site (take (r .bytes) (now (bytes .entry))) first ⌝ }
     ensures adds { λ r. ⌜ Put (now (out .entry)) 0 (outputOf site (take (r .bytes) (now (bytes .entry))) first) (r .text) (now (out .exit)) ⌝ }
     ensures part { λ r. ⌜ r .bytes ≤ length (now (bytes .entry)) ⌝ }
     ensures goes { λ r. ⌜ (longestAnswer ≤ length (now (out .entry)) → 0 < length (now (bytes .entry)) → 0 < r .bytes) ⌝ }
+    ensures fits { λ r. ⌜ r .text ≤ length (now (out .entry)) ⌝ }
+    ensures polled { λ _. ⌜ PeriodPolled site ⌝ }
 {
     if first.ended {
         return Taken {
@@ -244,7 +249,8 @@ pub fn take(site: Site, first: Run, bytes: &[u8], out: &mut [u8]) -> Taken
 
 // The end of the input: what it adds.
 pub fn put_last(out: &mut [u8], at: usize, site: Site, run: Run) -> usize
-    ensures { λ r. ⌜ Put (now (out .entry)) at (lastText site run) r (now (out .exit)) ⌝ }
+    ensures is { λ r. ⌜ Put (now (out .entry)) at (lastText site run) r (now (out .exit)) ⌝ }
+    ensures short { λ _. ⌜ length (lastText site run) ≤ longestAnswer ⌝ }
 {
     if run.ended {
         return text::put_bytes(out, at, b"");

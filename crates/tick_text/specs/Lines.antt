@@ -22,6 +22,10 @@ intervalText t = blankAndDecimal (t .refusal) ++ (blankAndDecimal (t .state .gro
 unfoldable pub tickLine : ℕ → ℕ → Ticked → List ℕ
 tickLine number n t = decimal number ++ (intervalText t ++ (lampsText (t .shown) n ++ (decidedText t ++ ascii "\n")))
 
+-- No tick's line is longer.
+abbrev pub longestTick : ℕ
+longestTick = 240
+
 -- In lowercase hexadecimal: 0 to 9, then a to f.
 unfoldable pub hexDigit : ℕ → ℕ
 hexDigit n = cond (ltb n 10) (48 + n) (87 + n)

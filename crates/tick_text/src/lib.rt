@@ -5,9 +5,10 @@ mod lamps;
 pub use decided::put_decision;
 pub use lamps::put_lamps;
 ghost use mathlib.Core.Path.{_≡_};
-ghost use Prim.Native.Nat.{_<_};
+ghost use Prim.Native.Nat.{_≤_, _<_};
+ghost use lib.ListN.{length};
 ghost use Rattle.text.specs.Put.{Put};
-ghost use Rattle.tick_text.specs.Lines.{headingLine, intervalText, tickLine, hexDigit, hexText, pollLine, noTickLine};
+ghost use Rattle.tick_text.specs.Lines.{headingLine, intervalText, tickLine, longestTick, hexDigit, hexText, pollLine, noTickLine};
 use tick::Ticked;
 
 pub fn put_heading(out: &mut [u8], at: usize) -> usize
@@ -33,7 +34,8 @@ fn put_interval(out: &mut [u8], at: usize, t: Ticked) -> usize
 
 // The line of a tick at a site of n lanes.
 pub fn put_tick(out: &mut [u8], at: usize, number: u64, n: u16, t: Ticked) -> usize
-    ensures { λ r. ⌜ Put (now (out .entry)) at (tickLine number n t) r (now (out .exit)) ⌝ }
+    ensures is { λ r. ⌜ Put (now (out .entry)) at (tickLine number n t) r (now (out .exit)) ⌝ }
+    ensures short { λ _. ⌜ length (tickLine number n t) ≤ longestTick ⌝ }
 {
     let interval = text::put_decimal(out, at, number);
     let lamps = put_interval(out, interval, t);

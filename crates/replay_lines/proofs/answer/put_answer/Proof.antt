@@ -2,7 +2,10 @@
 use borrow.Author.Tests.{not-true, not-false}
 use Rattle.replay_lines.proofs.ReplayLaws.{append-nil}
 use Rattle.text.proofs.PutLaws.{put-then}
-use mathlib.Core.Path.{sym}
+use Prim.Native.Nat.{_≤_}
+use lib.ListN.{length}
+use Rattle.replay_lines.specs.Replay.{longestAnswer}
+use Rattle.replay_lines.proofs.LengthLaws.{answer-most}
 use Rattle.replay_lines.specs.Answer.{answerText}
 use borrow.Author.Needs.{needs}
 use Rattle.replay_lines.proofs.answer.put_answer.Statement.{statement}
@@ -17,14 +20,19 @@ put-tick-requires c κs = search needs
 completes-requires : tie.Need-completes-requires
 completes-requires c κs = search needs
 
+answer-short : (p : tie.After-put-tick) → let a = p .before .before .before .before .args in length (answerText (a .site) (a .number) (a .ticked)) ≤ longestAnswer
+answer-short p = answer-most _ _ _ (rw (p .before .shape-of .ensures) at (p .put-tick .ensures .1))
+
 same-length : tie.Need-same-length
 same-length c = search needs
 
 returns : tie.Need-returns
 unfolding answerText
 returns c =
-    let p = c .before .before .before .before in
-    rw (← c .before .completes .ensures, not-true (c .before .completes .result) (c .if1 .taken), append-nil) (rw (p .before .shape-of .ensures) at (p .put-tick .ensures))
+    let p = c .before .before .before .before in (
+      rw (← c .before .completes .ensures, not-true (c .before .completes .result) (c .if1 .taken), append-nil) (rw (p .before .shape-of .ensures) at (p .put-tick .ensures .0)),
+      answer-short p,
+    )
 
 put-poll-requires : tie.Need-put-poll-requires
 put-poll-requires c κs = search needs
@@ -37,9 +45,11 @@ unfolding answerText
 returns-2 c =
     let q = c .before .before in
     let d = q .before .before .before in
-    let p = d .before .before .before .before in
-    rw (← d .before .completes .ensures, not-false (d .before .completes .result) (d .if1 .left))
-    (put-then (search needs) (rw (p .before .shape-of .ensures) at (p .put-tick .ensures)) (λ _. q .put-poll .ensures))
+    let p = d .before .before .before .before in (
+      rw (← d .before .completes .ensures, not-false (d .before .completes .result) (d .if1 .left))
+          (put-then (search needs) (rw (p .before .shape-of .ensures) at (p .put-tick .ensures .0)) (λ _. q .put-poll .ensures)),
+      answer-short p,
+    )
 
 pub put-answer-spec : {M : Type 1} → statement M
 put-answer-spec =

@@ -1,5 +1,7 @@
--- The five parts of the line.
+-- The five parts of the line; its numbers are the machine's.
+use native.Mathlib.Omega.{arith}
 use Rattle.text.proofs.PutLaws.{put-then}
+use Rattle.replay_lines.proofs.LengthLaws.{no-tick-most}
 use Rattle.replay_lines.specs.NoTick.{noTickLine}
 use borrow.Author.Needs.{needs}
 use Rattle.replay_lines.proofs.no_tick.put_no_tick.Statement.{statement}
@@ -37,11 +39,14 @@ returns c =
     let p3 = p4 .before .before .before .before in
     let p2 = p3 .before .before .before .before .before in
     let p1 = p2 .before .before .before .before in
-    put-then (search needs) (p1 .put-bytes .ensures)
-    (λ l. put-then l (p2 .put-decimal .ensures)
-    (λ l. put-then l (p3 .put-bytes2 .ensures)
-    (λ l. put-then l (p4 .put-reason .ensures)
-    (λ _. p5 .put-byte .ensures))))
+    let start = p1 .before .before .before .before in (
+      put-then (search needs) (p1 .put-bytes .ensures)
+          (λ l. put-then l (p2 .put-decimal .ensures)
+          (λ l. put-then l (p3 .put-bytes2 .ensures)
+          (λ l. put-then l (p4 .put-reason .ensures)
+          (λ _. p5 .put-byte .ensures)))),
+      no-tick-most (start .args .k) (start .args .verdict) _ (omega (arith, start .fits .k .fits)) (start .good .1 .1 .1 .0),
+    )
 
 pub put-no-tick-spec : {M : Type 1} → statement M
 put-no-tick-spec =

@@ -15,7 +15,10 @@ same-length c = search needs
 
 returns : tie.Need-returns
 unfolding lineText
-returns c = let t = c .before .before .before .before .before in rw (← t .before .is-tick .ensures, t .if1 .taken) (c .before .before .put-answer .ensures)
+returns c = let t = c .before .before .before .before .before in (
+  rw (← t .before .is-tick .ensures, t .if1 .taken) (c .before .before .put-answer .ensures .0),
+  rw (← t .before .is-tick .ensures, t .if1 .taken) (c .before .before .put-answer .ensures .1),
+)
 
 put-no-tick-requires : tie.Need-put-no-tick-requires
 put-no-tick-requires c κs = search needs
@@ -25,7 +28,10 @@ same-length-2 c = search needs
 
 returns-2 : tie.Need-returns-2
 unfolding lineText
-returns-2 c = let t = c .before .before .before .before in rw (← t .before .is-tick .ensures, t .if1 .left) (c .before .before .put-no-tick .ensures)
+returns-2 c = let t = c .before .before .before .before in (
+  rw (← t .before .is-tick .ensures, t .if1 .left) (c .before .before .put-no-tick .ensures .0),
+  rw (← t .before .is-tick .ensures, t .if1 .left) (c .before .before .put-no-tick .ensures .1),
+)
 
 pub put-line-spec : {M : Type 1} → statement M
 put-line-spec =

@@ -1,4 +1,5 @@
--- The loop's invariant: the run and the output are those of the bytes so far, and no line has been no tick.
+-- The loop's invariant: the run and the output are those of the bytes so far, the output lies within the buffer, and no line has been no
+-- tick.
 use Prim.Native.Nat.{_+_, _-_, _^_, _≤_, _<_}
 use mathlib.Core.Path.{_≡_, refl, sym, _∙_}
 use mathlib.Core.Bool.{false}
@@ -14,6 +15,8 @@ use mir.Syntax.{w64}
 use Rattle.text.specs.Put.{farthest}
 use Rattle.replay_lines.specs.Replay.{withScan, lineOf, afterLine}
 use Rattle.replay_lines.proofs.ReplayLaws.{Reached, reached-start, reached-in, reached-line, reached-same, reached-end, fresh-line, no-room}
+use Rattle.replay_lines.proofs.LengthLaws.{fits-in}
+use Rattle.replay_lines.proofs.PollLaws.{periods-polled}
 use Rattle.replay_lines.proofs.run.take.Statement.{statement}
 use Rattle.replay_lines.proofs.run.take.Tie as tie
 
@@ -24,6 +27,7 @@ Inv-loop site bytes out₀ run₀ scan₀ begun₀ end₀ at₀ out run scan beg
     × (length out ≡ length out₀)
     × (at ≡ 0 → end ≡ 0)
     × Reached site run₀ bytes out₀ at (withScan run scan begun) end out
+    × (end ≤ length out₀)
 
 abbrev μ-loop : tie.MeasureT-loop
 μ-loop site bytes out₀ run₀ scan₀ begun₀ end₀ at₀ out run scan begun end at = length bytes - at
@@ -57,17 +61,23 @@ module _ (c : tie.After-after-line Inv-loop μ-loop) where
       let l = p .before .before in
       let f = l .before .before .before in
       reached-same (a .site) (rw (l .line-of .ensures, f .with-scan .ensures) at (c .after-line .ensures))
-      (reached-line (a .site) (w .loop .inv .4) (below after) (w .loop .inv .1) (f .before .if2 .left) (short after) (rw (l .line-of .ensures, f .with-scan .ensures) at (p .put-line .ensures)))
+      (reached-line (a .site) (w .loop .inv .4) (below after) (w .loop .inv .1) (f .before .if2 .left) (short after) (rw (l .line-of .ensures, f .with-scan .ensures) at (p .put-line .ensures .0)))
+
+  answer-fits : c .before .before .before .put-line .result ≤ length (now (after .before .before .before .before .before .before .before .args .out))
+  answer-fits =
+      let p = c .before .before .before in
+      let l = p .before .before in
+      rw (after .before .before .loop .inv .2) at (fits-in _ (p .put-line .ensures .0) (p .put-line .ensures .1) (sym (l .before .before .has-room .ensures) ∙ not-false _ (l .before .if3 .left)))
 
   line-begins : withScan (c .after-line .result) lineStart false ≡ c .after-line .result
   line-begins = rw (c .after-line .ensures) (fresh-line _ _)
 
 returns : tie.Need-returns Inv-loop μ-loop
-returns c = let a = c .before .before .before .args in let r = reached-end (a .site) (reached-start (a .site) (a .first) (now (a .bytes)) (now (a .out))) (c .if1 .taken) in (r .is, (r .adds, (search needs, λ _ h. h)))
+returns c = let a = c .before .before .before .args in let r = reached-end (a .site) (reached-start (a .site) (a .first) (now (a .bytes)) (now (a .out))) (c .if1 .taken) in (r .is, (r .adds, (search needs, (λ _ h. h, (omega arith, periods-polled _)))))
 
 loop-holds : tie.Need-loop-holds Inv-loop μ-loop
 unfolding withScan
-loop-holds c = (search needs, c .before .if1 .left, search needs, λ _. refl, reached-start _ _ _ _)
+loop-holds c = (search needs, c .before .if1 .left, search needs, λ _. refl, reached-start _ _ _ _, omega arith)
 
 shared-slice-read-b : tie.Need-shared-slice-read-b Inv-loop μ-loop
 shared-slice-read-b c = search needs
@@ -88,7 +98,7 @@ loop-again c =
     let h = t .before .before .before in
     let a = h .before .before .before .before .before .args in
     let next = reached-in (a .site) (h .loop .inv .4) (search needs) (h .loop .inv .1) (t .if2 .taken) in
-    (search needs, h .loop .inv .1, search needs, λ z. absurd (omega (arith, z)), rw (c .after-byte .ensures) next)
+    (search needs, h .loop .inv .1, search needs, λ z. absurd (omega (arith, z)), rw (c .after-byte .ensures) next, h .loop .inv .5)
 
 with-scan-requires : tie.Need-with-scan-requires Inv-loop μ-loop
 with-scan-requires c κs = search needs
@@ -109,7 +119,10 @@ returns-2 c =
         r .adds,
         (
           search needs,
-          λ big _. no-room _ _ _ (sym (c .before .has-room .ensures) ∙ not-true _ (c .if3 .taken)) (h .loop .inv .3) (omega (arith, big, h .loop .inv .2)),
+          (
+            λ big _. no-room _ _ _ (sym (c .before .has-room .ensures) ∙ not-true _ (c .if3 .taken)) (h .loop .inv .3) (omega (arith, big, h .loop .inv .2)),
+            (h .loop .inv .5, periods-polled _),
+          ),
         ),
       ),
     )
@@ -127,7 +140,7 @@ same-length-2 : tie.Need-same-length-2 Inv-loop μ-loop
 same-length-2 c = same-room (c .before)
 
 returns-3 : tie.Need-returns-3 Inv-loop μ-loop
-returns-3 c = let r = reached-end _ (behind-line (c .before)) (c .if4 .taken) in (r .is, (r .adds, (search needs, λ _ h. h)))
+returns-3 c = let r = reached-end _ (behind-line (c .before)) (c .if4 .taken) in (r .is, (r .adds, (search needs, (λ _ h. h, (answer-fits (c .before), periods-polled _)))))
 
 line-start-requires : tie.Need-line-start-requires Inv-loop μ-loop
 line-start-requires c κs = search needs
@@ -146,6 +159,7 @@ loop-again-2 c =
       same-room l,
       λ z. absurd (omega (arith, z)),
       reached-same _ (rw (c .line-start .ensures) (line-begins l)) (behind-line l),
+      answer-fits l,
     )
 
 with-scan-requires-2 : tie.Need-with-scan-requires-2 Inv-loop μ-loop
@@ -158,7 +172,7 @@ returns-4 : tie.Need-returns-4 Inv-loop μ-loop
 returns-4 c =
     let h = c .before .before in
     let r = rw (← c .with-scan2 .ensures) at (h .loop .inv .4) in
-    (r .is, (r .adds, (search needs, λ _ some. search needs)))
+    (r .is, (r .adds, (search needs, (λ _ some. search needs, (h .loop .inv .5, periods-polled _)))))
 
 pub take-spec : {M : Type 1} → statement M
 take-spec =
