@@ -23,7 +23,8 @@ fn take_all(site: Site, first: Run, bytes: &[u8], out: &mut [u8]) -> Going
     while from < bytes.len() {
         let taken = replay_lines::take(site, run, &bytes[from..], out);
         run = taken.run;
-        if !site_program::write_front(out, taken.text) {
+        let n = taken.text;
+        if !site_program::write_out(&out[..n]) {
             return Going { run, on: false };
         }
         from += taken.bytes;
@@ -33,9 +34,11 @@ fn take_all(site: Site, first: Run, bytes: &[u8], out: &mut [u8]) -> Going
 }
 
 // The end of the ticks; a last line may lack its newline.
-fn end_all(site: Site, run: Run, out: &mut [u8]) -> Going {
+fn end_all(site: Site, run: Run, out: &mut [u8]) -> Going
+    requires { ⌜ longestAnswer ≤ length (now out) ⌝ }
+{
     let end = replay_lines::put_last(out, 0, site, run);
-    site_program::write_front(out, end);
+    site_program::write_out(&out[..end]);
     Going {
         run: replay_lines::last(site, run),
         on: false,

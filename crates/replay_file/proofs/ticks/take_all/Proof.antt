@@ -1,6 +1,7 @@
 -- The loop's invariant: what is left to take, from the present run on, gives what all gives.
 use Prim.Native.Nat.{ℕ, _+_, _-_, _≤_, _<_}
 use mathlib.Core.Path.{_≡_, refl, sym, _∙_}
+use lib.Seq.{length-take-le}
 use mathlib.Core.Bool.{true≢false}
 use mathlib.Core.List.{List}
 use native.Mathlib.Omega.{arith}
@@ -36,8 +37,11 @@ module _ (c : tie.After-take Inv-loop μ-loop) where
 
   some : 0 < c .take .result .bytes
   some =
-      c .take .ensures .1 .1 .1 (omega (arith, looped .loop .inv .1, looped .before .before .before .pre))
+      c .take .ensures .1 .1 .1 .0 (omega (arith, looped .loop .inv .1, looped .before .before .before .pre))
       (rw (rest all (looped .loop .from)) (omega (arith, length-drop (looped .loop .from) all, here)))
+
+  whole : c .take .result .text ≤ length (c .take .last .1 .1 .1 .0)
+  whole = rw (c .take .kept .1 .1 .1 .0) (c .take .ensures .1 .1 .1 .1 .0)
 
   fits : Fits w64 (looped .loop .from + c .take .result .bytes)
   fits = search (needs, within)
@@ -61,8 +65,14 @@ part-take-end c = search needs
 take-requires : tie.Need-take-requires Inv-loop μ-loop
 take-requires c κs = search needs
 
-write-front-requires : tie.Need-write-front-requires Inv-loop μ-loop
-write-front-requires c κs = search needs
+slice-reshare-prefix-write-out : tie.Need-slice-reshare-prefix-write-out Inv-loop μ-loop
+slice-reshare-prefix-write-out c = whole (c .before .before .before)
+
+slice-aggregate-write-out : tie.Need-slice-aggregate-write-out Inv-loop μ-loop
+slice-aggregate-write-out c = sym (length-take-le _ _ (whole (c .before .before .before .before)))
+
+write-out-requires : tie.Need-write-out-requires Inv-loop μ-loop
+write-out-requires c κs = search needs
 
 same-length : tie.Need-same-length Inv-loop μ-loop
 same-length c = search needs
@@ -96,7 +106,9 @@ take-all-spec =
     part-take-start
     part-take-end
     take-requires
-    write-front-requires
+    slice-reshare-prefix-write-out
+    slice-aggregate-write-out
+    write-out-requires
     same-length
     returns
     add-from
