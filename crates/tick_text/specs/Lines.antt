@@ -37,7 +37,3 @@ hexText (b ∷ bytes) = hexDigit (b / 16) ∷ hexDigit (b % 16) ∷ hexText byte
 -- `poll` and the poll record in lowercase hexadecimal.
 unfoldable pub pollLine : List ℕ → List ℕ
 pollLine bytes = ascii "poll " ++ (hexText bytes ++ ascii "\n")
-
--- The end of a run at its k-th line.
-unfoldable pub noTickLine : ℕ → List ℕ
-noTickLine k = ascii "line " ++ (decimal k ++ ascii " is no tick\n")

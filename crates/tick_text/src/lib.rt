@@ -8,7 +8,7 @@ ghost use mathlib.Core.Path.{_≡_};
 ghost use Prim.Native.Nat.{_≤_, _<_};
 ghost use lib.ListN.{length};
 ghost use Rattle.text.specs.Put.{Put};
-ghost use Rattle.tick_text.specs.Lines.{headingLine, intervalText, tickLine, longestTick, hexDigit, hexText, pollLine, noTickLine};
+ghost use Rattle.tick_text.specs.Lines.{headingLine, intervalText, tickLine, longestTick, hexDigit, hexText, pollLine};
 use tick::Ticked;
 
 pub fn put_heading(out: &mut [u8], at: usize) -> usize
@@ -74,13 +74,4 @@ pub fn put_poll(out: &mut [u8], at: usize, bytes: &[u8]) -> usize
     let p = text::put_bytes(out, at, b"poll ");
     let end = put_hex(out, p, bytes);
     text::put_byte(out, end, b'\n')
-}
-
-// The line that ends a run: line k is no tick.
-pub fn put_no_tick(out: &mut [u8], at: usize, k: u64) -> usize
-    ensures { λ r. ⌜ Put (now (out .entry)) at (noTickLine k) r (now (out .exit)) ⌝ }
-{
-    let p = text::put_bytes(out, at, b"line ");
-    let q = text::put_decimal(out, p, k);
-    text::put_bytes(out, q, b" is no tick\n")
 }
