@@ -3,10 +3,10 @@ use Prim.Native.Nat.{ℕ}
 use mathlib.Core.Bool.{Bool, true, false, cond}
 use mathlib.Core.List.{List, [], _∷_}
 use lib.Dec.{eqb}
-use lib.ListN.{getD}
+use lib.ListN.{length, getD}
 use Rattle.text.specs.Ascii.{ascii}
 use Rattle.site_program.specs.declared.arguments.Asked.{Asked}
-use Rattle.site_program.specs.declared.arguments.Asked.the-variants.{Default, Named, Help, NoOption, TooMany}
+use Rattle.site_program.specs.declared.arguments.Asked.the-variants.{Default, Named, Help, NoName, NoOption, TooMany}
 
 abbrev pub same : List ℕ → List ℕ → Bool
 same [] [] = true
@@ -14,9 +14,14 @@ same [] (y ∷ ys) = false
 same (x ∷ xs) [] = false
 same (x ∷ xs) (y ∷ ys) = cond (eqb x y) (same xs ys) false
 
--- `--help`; what else begins with `-`, 45, is no option; all else is the site file's name.
+-- `--help`; what else begins with `-`, 45, is no option; an empty argument is no name; all else is the site file's name.
 unfoldable pub askedByOne : List ℕ → Asked
-askedByOne argument = cond (same argument (ascii "--help")) Help (cond (eqb (getD argument 0 0) 45) NoOption Named)
+askedByOne argument =
+    cond (same argument (ascii "--help"))
+    Help
+    (cond (eqb (length argument) 0)
+    NoName
+    (cond (eqb (getD argument 0 0) 45) NoOption Named))
 
 -- Of count arguments, the first of which is given.
 unfoldable pub askedBy : ℕ → List ℕ → Asked

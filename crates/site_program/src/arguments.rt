@@ -8,6 +8,8 @@ pub enum Asked {
     // the one that the argument names
     Named,
     Help,
+    // the argument is empty
+    NoName,
     NoOption,
     TooMany,
 }
@@ -19,7 +21,7 @@ fn asked_by_one(argument: &[u8]) -> Asked
         return Asked::Help;
     }
     if argument.len() == 0 {
-        return Asked::Named;
+        return Asked::NoName;
     }
     if argument[0] == b'-' {
         return Asked::NoOption;

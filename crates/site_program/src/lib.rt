@@ -64,6 +64,15 @@ fn print_help(usage: &[u8], help: &[u8]) {
     }
 }
 
+// An argument that is empty, or longer than any name.
+fn print_no_name(error: i32) {
+    if error != 0 {
+        os::fail(b"the site file's name");
+        return;
+    }
+    io::write_all(STDERR_FILENO, b"the site file's name is empty\n");
+}
+
 fn print_no_option(argument: &[u8], usage: &[u8]) {
     io::write_all(STDERR_FILENO, argument);
     io::write_all(STDERR_FILENO, b" is no option\n");
@@ -112,19 +121,17 @@ pub fn asked_site(usage: &[u8], help: &[u8], name: &mut [u8]) -> AskedSite
     let error = os::errno();
     match asked_by(count, &name[..n]) {
         Asked::Default => default_name(name),
-        Asked::Named => {
-            if error != 0 {
-                os::fail(b"the site file's name");
-                return nothing_asked();
-            }
-            AskedSite {
-                given: true,
-                named: true,
-                count: n,
-            }
-        }
+        Asked::Named => AskedSite {
+            given: true,
+            named: true,
+            count: n,
+        },
         Asked::Help => {
             print_help(usage, help);
+            nothing_asked()
+        }
+        Asked::NoName => {
+            print_no_name(error);
             nothing_asked()
         }
         Asked::NoOption => {

@@ -2,8 +2,6 @@
 use borrow.Author.Tests.{eq-eqb, ne-eqb}
 use mathlib.Core.Path.{sym, _∙_}
 use mathlib.Core.Bool.{true≢false}
-use native.Mathlib.Omega.{arith}
-use lib.ListN.{List·getD-eq-default}
 use denote.Ref.{now}
 use Rattle.text.specs.Ascii.{ascii}
 use Rattle.site_program.proofs.SameLaws.{differ}
@@ -24,18 +22,18 @@ returns c = rw (c .before .same .ensures .0 (c .if1 .taken))
 
 returns-2 : tie.Need-returns-2
 unfolding askedByOne
-returns-2 c = let differs = differ (now (c .before .before .before .before .before .args .argument)) (ascii "--help") (λ q. true≢false (sym (c .before .before .same .ensures .1 q) ∙ c .before .if1 .left)) in rw (differs, List·getD-eq-default (now (c .before .before .before .before .before .args .argument)) 0 {n = 0} (omega (arith, c .if2 .taken)))
+returns-2 c = let differs = differ (now (c .before .before .before .before .before .args .argument)) (ascii "--help") (λ q. true≢false (sym (c .before .before .same .ensures .1 q) ∙ c .before .if1 .left)) in rw (differs, eq-eqb _ _ (c .if2 .taken))
 
 shared-slice-read-if3 : tie.Need-shared-slice-read-if3
 shared-slice-read-if3 c = search needs
 
 returns-3 : tie.Need-returns-3
 unfolding askedByOne
-returns-3 c = let differs = differ (now (c .before .before .before .before .before .before .before .args .argument)) (ascii "--help") (λ q. true≢false (sym (c .before .before .before .before .same .ensures .1 q) ∙ c .before .before .before .if1 .left)) in rw (differs, eq-eqb _ _ (c .if3 .taken))
+returns-3 c = let differs = differ (now (c .before .before .before .before .before .before .before .args .argument)) (ascii "--help") (λ q. true≢false (sym (c .before .before .before .before .same .ensures .1 q) ∙ c .before .before .before .if1 .left)) in rw (differs, ne-eqb _ _ (c .before .before .if2 .left), eq-eqb _ _ (c .if3 .taken))
 
 returns-4 : tie.Need-returns-4
 unfolding askedByOne
-returns-4 c = let differs = differ (now (c .before .before .before .before .before .before .before .args .argument)) (ascii "--help") (λ q. true≢false (sym (c .before .before .before .before .same .ensures .1 q) ∙ c .before .before .before .if1 .left)) in rw (differs, ne-eqb _ _ (c .if3 .left))
+returns-4 c = let differs = differ (now (c .before .before .before .before .before .before .before .args .argument)) (ascii "--help") (λ q. true≢false (sym (c .before .before .before .before .same .ensures .1 q) ∙ c .before .before .before .if1 .left)) in rw (differs, ne-eqb _ _ (c .before .before .if2 .left), ne-eqb _ _ (c .if3 .left))
 
 pub asked-by-one-spec : {M : Type 1} → statement M
 asked-by-one-spec =
