@@ -1,3 +1,4 @@
 pub mod LengthLaws
+pub mod LinesLaws
 pub mod PollLaws
 pub mod ReplayLaws

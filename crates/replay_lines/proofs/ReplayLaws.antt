@@ -22,7 +22,7 @@ pub append-nil : (a : List ℕ) → a ++ [] ≡ a
 append-nil [] = refl
 append-nil (x ∷ a) = ap (λ (r : List ℕ). x ∷ r) (append-nil a)
 
-append-assoc : (a b c : List ℕ) → a ++ (b ++ c) ≡ (a ++ b) ++ c
+pub append-assoc : (a b c : List ℕ) → a ++ (b ++ c) ≡ (a ++ b) ++ c
 append-assoc [] b c = refl
 append-assoc (x ∷ a) b c = ap (λ (r : List ℕ). x ∷ r) (append-assoc a b c)
 
@@ -70,11 +70,11 @@ module _ (x : Site) where
 
   -- A byte of a line, and the end of one.
   module _ (run : Run) (b : ℕ) (e : run .ended ≡ false) where
-    going-on : afterByte x run b ≡ cond (eqb b 10) (afterLine run (lineOf x run)) (withScan run (scanAfter (run .scan) b) true)
+    pub going-on : afterByte x run b ≡ cond (eqb b 10) (afterLine run (lineOf x run)) (withScan run (scanAfter (run .scan) b) true)
     unfolding afterByte
     going-on = ap (λ (t : Bool). cond t run (cond (eqb b 10) (afterLine run (lineOf x run)) (withScan run (scanAfter (run .scan) b) true))) e
 
-    adding : addedBy x run b ≡ cond (eqb b 10) (lineText x (lineOf x run)) []
+    pub adding : addedBy x run b ≡ cond (eqb b 10) (lineText x (lineOf x run)) []
     unfolding addedBy
     adding = ap (λ (t : Bool). cond t [] (cond (eqb b 10) (lineText x (lineOf x run)) [])) e
 

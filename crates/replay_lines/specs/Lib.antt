@@ -1,3 +1,4 @@
 pub mod NoTick
 pub mod Answer
 pub mod Replay
+pub mod Lines

@@ -6,6 +6,7 @@ ghost use lib.Dec.{leb};
 ghost use lib.ListN.{length, take};
 ghost use Rattle.text.specs.Put.{Put};
 ghost use Rattle.replay_lines.specs.Answer.{PeriodPolled};
+ghost use Rattle.replay_lines.specs.Lines.{ByLines};
 ghost use Rattle.replay_lines.specs.Replay.{longestAnswer, noRefused, startOf, withScan, lineOf, lineText, noted, afterLine, outputOf, runAfter, lastText, lastRun};
 use crate::answer;
 use crate::no_tick;
@@ -64,9 +65,10 @@ fn no_refused() -> Refused
     }
 }
 
-// Power-up, before the first byte.
+// Power-up, before the first byte. From there a replay's text is the answers to its input's lines.
 pub fn start(site: Site) -> Run
-    ensures { λ r. ⌜ r ≡ startOf site ⌝ }
+    ensures is { λ r. ⌜ r ≡ startOf site ⌝ }
+    ensures lines { λ _. ⌜ ByLines site ⌝ }
 {
     let powered = tick::power_up(site);
     let state = powered.state;

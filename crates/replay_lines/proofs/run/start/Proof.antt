@@ -1,5 +1,6 @@
--- The calls give the definition's.
+-- The calls give the definition's; law `by-lines` is of all replays that begin there.
 use Rattle.replay_lines.specs.Replay.{startOf}
+use Rattle.replay_lines.proofs.LinesLaws.{by-lines}
 use borrow.Author.Needs.{needs}
 use Rattle.replay_lines.proofs.run.start.Statement.{statement}
 use Rattle.replay_lines.proofs.run.start.Tie as tie
@@ -15,7 +16,7 @@ no-refused-requires c κs = search needs
 
 returns : tie.Need-returns
 unfolding startOf
-returns c = rw (c .no-refused .ensures, c .before .line-start .ensures, c .before .before .before .power-up .ensures .0)
+returns c = (rw (c .no-refused .ensures, c .before .line-start .ensures, c .before .before .before .power-up .ensures .0), by-lines _)
 
 pub start-spec : {M : Type 1} → statement M
 start-spec = tie.close (tie.spec power-up-requires line-start-requires no-refused-requires returns)
