@@ -3,7 +3,7 @@
 use Prim.Native.Nat.{ℕ, _+_, _^_, _<_}
 use mathlib.Core.Path.{_≡_, refl, ap, sym, _∙_}
 use mathlib.Core.Bool.{Bool, true, false, not}
-use mathlib.Core.List.{List, [], _∷_, _++_}
+use mathlib.Core.List.{List, [], _∷_, _++_, append-nil, append-assoc}
 use native.Mathlib.Omega.{arith}
 use lib.Dec.{eqb}
 use lib.ListN.{length}
@@ -22,7 +22,7 @@ use Rattle.replay_lines.specs.declared.run.Line.{Line}
 use Rattle.replay_lines.specs.Replay.{startOf, lineOf, lineText, afterLine, withScan, runAfter, outputOf, lastText, replayText}
 use Rattle.replay_lines.specs.Answer.{answerText}
 use Rattle.replay_lines.specs.Lines.{linesOf, answersTo, ByLines}
-use Rattle.replay_lines.proofs.ReplayLaws.{append-nil, append-assoc, going-on, adding, run-stays, output-ends, last-ended, last-between, last-begun}
+use Rattle.replay_lines.proofs.ReplayLaws.{going-on, adding, run-stays, output-ends, last-ended, last-between, last-begun}
 
 -- The bytes of a line so far, in front of the lines of the input left.
 abbrev inFront : List ℕ → List (List ℕ) → List (List ℕ)
@@ -124,7 +124,7 @@ module _ (x : Site) where
     by-byte : (t : Bool) → eqb b 10 ≡ t → Claim rest → added (b ∷ rest) (within run part) ≡ answers run (inFront part (linesOf (b ∷ rest)))
     by-byte true n h =
         rw (going-on x (within run part) b (within-goes run part e), adding x (within run part) b (within-goes run part e), n)
-        (rw (line-is run part (omega arith), ← append-assoc, front-ends part (linesOf rest)) (line-case run part rest _ refl (λ f. h [] _ f (omega arith))))
+        (rw (line-is run part (omega arith), append-assoc, front-ends part (linesOf rest)) (line-case run part rest _ refl (λ f. h [] _ f (omega arith))))
     by-byte false n h =
         rw (going-on x (within run part) b (within-goes run part e), adding x (within run part) b (within-goes run part e), n)
         (rw (within-more run part b, front-more part b (linesOf rest)) (h (part ++ (b ∷ [])) run e (omega (arith, length-more part b))))

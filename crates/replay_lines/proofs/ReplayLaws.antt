@@ -2,7 +2,7 @@
 use Prim.Native.Nat.{ℕ, zero, suc, _+_, _≤_, _<_}
 use mathlib.Core.Path.{_≡_, refl, sym, ap, _∙_, subst}
 use mathlib.Core.Bool.{Bool, true, false, cond}
-use mathlib.Core.List.{List, [], _∷_, _++_}
+use mathlib.Core.List.{List, [], _∷_, _++_, append-nil, append-assoc}
 use native.Mathlib.Omega.{arith}
 use native.Mathlib.Numerals.{add-one}
 use borrow.Author.Tests.{eq-eqb, ne-eqb, leb-false}
@@ -17,14 +17,6 @@ use Rattle.tick_line.specs.Reading.{isTick}
 use Rattle.replay_lines.specs.declared.run.Run.{Run}
 use Rattle.replay_lines.specs.declared.run.Line.{Line}
 use Rattle.replay_lines.specs.Replay.{lineOf, lineText, afterLine, withScan, afterByte, addedBy, runAfter, outputOf, lastText, lastRun, longestAnswer}
-
-pub append-nil : (a : List ℕ) → a ++ [] ≡ a
-append-nil [] = refl
-append-nil (x ∷ a) = ap (λ (r : List ℕ). x ∷ r) (append-nil a)
-
-pub append-assoc : (a b c : List ℕ) → a ++ (b ++ c) ≡ (a ++ b) ++ c
-append-assoc [] b c = refl
-append-assoc (x ∷ a) b c = ap (λ (r : List ℕ). x ∷ r) (append-assoc a b c)
 
 -- Where there is no room, some bytes have been taken.
 pub no-room : (at end size : ℕ) → leb (end + longestAnswer) size ≡ false → (at ≡ 0 → end ≡ 0) → longestAnswer ≤ size → 0 < at
@@ -48,7 +40,7 @@ module _ (x : Site) where
   pub output-in-parts : (a b : List ℕ) (run : Run) → outputOf x (a ++ b) run ≡ outputOf x a run ++ outputOf x b (runAfter x a run)
   output-in-parts [] b run = refl
   output-in-parts (c ∷ a) b run =
-      rw (output-in-parts a b (afterByte x run c)) (append-assoc (addedBy x run c) (outputOf x a (afterByte x run c)) (outputOf x b (runAfter x a (afterByte x run c))))
+      rw (output-in-parts a b (afterByte x run c)) (sym (append-assoc (addedBy x run c) (outputOf x a (afterByte x run c)) (outputOf x b (runAfter x a (afterByte x run c)))))
 
   -- Behind a line that is no tick nothing is read.
   module _ (run : Run) (b : ℕ) (e : run .ended ≡ true) where

@@ -1,6 +1,6 @@
 -- The tick's line, then the poll's where the definition has one.
 use borrow.Author.Tests.{not-true, not-false}
-use Rattle.replay_lines.proofs.ReplayLaws.{append-nil}
+use mathlib.Core.List.{append-nil}
 use Rattle.text.proofs.PutLaws.{put-then}
 use Prim.Native.Nat.{_≤_}
 use lib.ListN.{length}
