@@ -1,4 +1,4 @@
-# The periods of a replay as a table: `awk -f periods.awk TICKS REPLAY`. A row for each `poll` line: date and time of the tick that completed
+# The periods of a replay as a table: `awk -f periods.awk TICKS REPLAYED`. A row for each `poll` line: date and time of the tick that completed
 # the period, and the period's serial; of each metered lane the passages and the greens begun (pass1, green1, ..); of each mainline lane the
 # vehicles, the occupied milliseconds and whether it was good (veh1, ms1, good1, ..); then over the good lanes how many they are, their flow
 # in vehicles an hour per lane and their occupancy in percent, both rounded down, - where no lane is good.
@@ -51,6 +51,14 @@ function period(line, poll,    n, m, lane, vehicles, occupied, good, lanes, all_
     put("occupancy", lanes ? int(tenths / 10) "." tenths % 10 : "-")
 }
 
+BEGIN {
+    if (ARGC != 3) {
+        print "usage: awk -f periods.awk TICKS REPLAYED" >"/dev/stderr"
+        wrong = 1
+        exit 2
+    }
+}
+
 FILENAME == ARGV[1] {
     date[FNR] = sprintf("%04d-%02d-%02d", $1, $2, $3)
     time[FNR] = sprintf("%02d:%02d:%04.1f", $4 / 36000, $4 / 600 % 60, $4 % 600 / 10)
@@ -76,6 +84,7 @@ function row_text(row,    column, text) {
 }
 
 END {
+    if (wrong) exit 2
     if (rows == 0) print "no period was completed"
     for (row = 0; rows > 0 && row <= rows; row++) print row_text(row)
     if (end != "") print end

@@ -2,7 +2,7 @@
 ghost use Prim.Native.Nat.{_+_, _≤_};
 ghost use lib.ListN.{length};
 
-// How many bytes were read; `failed` says that there is a file and that it could not be read.
+// How many bytes were read; `failed` says that a file could not be read, or is absent and was named.
 pub struct Input {
     pub failed: bool,
     pub count: usize,

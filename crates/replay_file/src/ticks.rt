@@ -88,6 +88,7 @@ pub fn replay_at(site: Site, fd: i32, errors: i32) {
         run: replay_lines::start(site),
         on: site_program::write_front(out, heading),
     };
+    // the language wants to see that a loop ends
     let mut left: u64 = 18446744073709551615;
     while 0 < left {
         if !going.on {

@@ -8,6 +8,7 @@ use Rattle.text.specs.Ascii.{ascii}
 use Rattle.site_program.specs.declared.arguments.Asked.{Asked}
 use Rattle.site_program.specs.declared.arguments.Asked.the-variants.{Default, Named, Help, NoName, NoOption, TooMany}
 
+-- Whether two texts are the same.
 abbrev pub same : List ℕ → List ℕ → Bool
 same [] [] = true
 same [] (y ∷ ys) = false

@@ -48,7 +48,7 @@ afterBlank NoNumber = NoNumber
 afterBlank Above = Above
 afterBlank Empty = Empty
 
--- Any other byte makes its word no number.
+-- Any other byte makes its word no number; behind a second blank it shows that a word is empty.
 abbrev pub afterOther : Stage → Stage
 afterOther Between = NoNumber
 afterOther Number = NoNumber

@@ -86,7 +86,7 @@ fn narrow_site() -> Site {
     site
 }
 
-/// So many ticks there that more than two blocks of output are written, of 60,000 bytes or a line more each.
+/// So many ticks there that more than two blocks of output are written, of 65,536 bytes less a line or two each.
 fn long_ticks() -> String {
     let line = |i: u32| Line {
         clock: [2024, 2, 29, 36_000 + i],
