@@ -189,9 +189,9 @@ fn has_room(size: usize, end: usize) -> bool
     true
 }
 
-// Takes a part of the input's bytes, and writes what they add over the front of out. It stops before
-// a line whose answer might not fit, so that all that they add stands there. After a tick that
-// completes a period there is always a poll record.
+// Takes a part of the input's bytes, and writes what they add over the front of out. How many it
+// takes is left to it: some, where out holds the longest answer. It stops before the newline of a
+// line whose answer might not fit. After a tick that completes a period there is always a poll record.
 pub fn take(site: Site, first: Run, bytes: &[u8], out: &mut [u8]) -> Taken
     ensures is { λ r. ⌜ r .run ≡ runAfter site (take (r .bytes) (now (bytes .entry))) first ⌝ }
     ensures adds { λ r. ⌜ Put (now (out .entry)) 0 (outputOf site (take (r .bytes) (now (bytes .entry))) first) (r .text) (now (out .exit)) ⌝ }
