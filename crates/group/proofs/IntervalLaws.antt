@@ -15,7 +15,8 @@ use Rattle.lanes.specs.Lanes.{lanesTick, lanesEntered}
 use Rattle.loops.proofs.Cases.{by-test}
 use Rattle.group.specs.declared.Group.{Group}
 use Rattle.group.specs.Intervals.{ageOf, timeOf, fromDark, fromGreen, fromMetering, successorOf, nextInterval}
-use Rattle.group.specs.Group.{allRed, intervalOf, lanesIn, lanesMoved}
+use Rattle.group.specs.Preemption.{isPreMetering, isHeld, steeredWish}
+use Rattle.group.specs.Group.{allRed, ordinaryInterval, intervalOf, lanesIn, lanesMoved}
 
 -- The intervals in which lanes show their own colours.
 abbrev pub isOwn : ℕ → Bool
@@ -87,6 +88,29 @@ leads t wish age red (suc (suc (suc (suc (suc (suc (suc (suc (suc zero))))))))) 
     by-test (leb (t .shutdown) age) (λ e. rw e (other _ _ _ _ refl (omega arith) refl)) (λ e. rw e (other _ _ _ _ refl (omega arith) refl))
 leads t wish age red (suc (suc (suc (suc (suc (suc (suc (suc (suc (suc i)))))))))) h = absurd (omega arith)
 
+-- An interval that is held is pre-metering dark or green,
+held-cases : (P : ℕ → Type 0) (preemption i : ℕ) → isHeld preemption i ≡ true → P 1 → P 2 → P i
+unfolding isHeld isPreMetering
+held-cases P preemption i e a b =
+    by-test (eqb preemption 1)
+    (λ p. by-test (eqb i 1)
+    (λ f. rw (eqb-true i 1 f) a)
+    (λ f. rw (eqb-true i 2 (rw (p, f) at e)) b))
+    (λ p. absurd (true≢false (sym (rw p at e))))
+
+-- and what is held leads nowhere.
+leads-held : (wish : Wish) (red : Bool) (preemption i : ℕ) → isHeld preemption i ≡ true → Leads wish red i i
+leads-held wish red preemption i e =
+    held-cases (λ k. Leads wish red k k) preemption i e (other _ _ _ _ refl (omega arith) refl) (other _ _ _ _ refl (omega arith) refl)
+
+pub leads-on : (t : Timings) (preemption : ℕ) (wish : Wish) (g : Group) → g .interval ≤ 9
+    → Leads (steeredWish preemption wish) (allRed (g .lanes) (t .lanes)) (g .interval) (intervalOf t preemption wish g)
+unfolding intervalOf ordinaryInterval
+leads-on t preemption wish g h =
+    by-test (isHeld preemption (g .interval))
+    (λ e. rw e (leads-held _ _ preemption (g .interval) e))
+    (λ e. rw e (leads t (steeredWish preemption wish) (ageOf (g .age)) (allRed (g .lanes) (t .lanes)) (g .interval) h))
+
 -- The lanes as a tick's lane intervals leave them, by cases.
 module _ (t : Timings) (passage : List ℕ) (wish : Wish) (before : ℕ) (s : Lanes) (P : ℕ → Lanes → Type 0) where
   cases : (now : ℕ) → Leads wish (allRed s (t .lanes)) before now
@@ -106,12 +130,12 @@ module _ (t : Timings) (passage : List ℕ) (wish : Wish) (before : ℕ) (s : La
       (λ f. let q = eqb-true now 8 f in rw q (c (w .to-eight q)))
       (λ f. rw (e, f) (d now (w .most) (rw (e, f)) (w .to-other (rw (e, f))))))
 
-module _ (t : Timings) (wish : Wish) (samples : Metered) (g : Group) (h : g .interval ≤ 9) (P : ℕ → Lanes → Type 0) where
-  pub lanes-cases : (g .interval ≡ 7 → fromMetering wish ≡ 7 → P 7 (lanesTick t (g .lanes) (samples .passage)))
+module _ (t : Timings) (preemption : ℕ) (wish : Wish) (samples : Metered) (g : Group) (h : g .interval ≤ 9) (P : ℕ → Lanes → Type 0) where
+  pub lanes-cases : (g .interval ≡ 7 → fromMetering (steeredWish preemption wish) ≡ 7 → P 7 (lanesTick t (g .lanes) (samples .passage)))
       → (eqb (g .interval) 7 ≡ false → P 7 (lanesEntered (t .lanes)))
       → (isOwn (g .interval) ≡ true → P 8 (lanesTick t (g .lanes) (samples .passage)))
       → ((k : ℕ) → k ≤ 9 → isOwn k ≡ false → (isOwn (g .interval) ≡ true → allRed (g .lanes) (t .lanes) ≡ true) → P k (g .lanes))
-      → P (intervalOf t wish g) (lanesMoved t wish samples g)
-  unfolding lanesMoved intervalOf
+      → P (intervalOf t preemption wish g) (lanesMoved t preemption wish samples g)
+  unfolding lanesMoved
   lanes-cases a b c d =
-      cases t (samples .passage) wish (g .interval) (g .lanes) P _ (leads t wish (ageOf (g .age)) (allRed (g .lanes) (t .lanes)) (g .interval) h) a b c d
+      cases t (samples .passage) (steeredWish preemption wish) (g .interval) (g .lanes) P _ (leads-on t preemption wish g h) a b c d

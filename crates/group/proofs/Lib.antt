@@ -1,2 +1,3 @@
+pub mod PreemptionLaws
 pub mod IntervalLaws
 pub mod RangeLaws

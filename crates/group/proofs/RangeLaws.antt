@@ -220,18 +220,18 @@ lanes-release s n k h v =
     })
 
 -- The group is in range after a tick. Only the site's lanes are asked of the timings.
-module _ (t : Timings) (wish : Wish) (cycle : ℕ) (samples : Metered) (g : Group) (h : 1 ≤ t .lanes) (v : GroupGood g (t .lanes)) where
-  pub moved-lanes : LanesGood (isOwn (intervalOf t wish g)) (lanesMoved t wish samples g) (t .lanes)
+module _ (t : Timings) (preemption : ℕ) (wish : Wish) (cycle : ℕ) (samples : Metered) (g : Group) (h : 1 ≤ t .lanes) (v : GroupGood g (t .lanes)) where
+  pub moved-lanes : LanesGood (isOwn (intervalOf t preemption wish g)) (lanesMoved t preemption wish samples g) (t .lanes)
   moved-lanes =
-      lanes-cases t wish samples g (v .interval) (λ k s. LanesGood (isOwn k) s (t .lanes))
+      lanes-cases t preemption wish samples g (v .interval) (λ k s. LanesGood (isOwn k) s (t .lanes))
       (λ b _. lanes-keep t (g .lanes) (samples .passage) (rw b at (v .lanes)))
       (λ _. lanes-enter true (t .lanes) h)
       (λ o. lanes-keep t (g .lanes) (samples .passage) (rw o at (v .lanes)))
       (λ k _ _ r. lanes-rest (isOwn (g .interval)) (isOwn k) (g .lanes) (t .lanes) r (v .lanes))
 
-  pub moved-interval : intervalOf t wish g ≤ 9
+  pub moved-interval : intervalOf t preemption wish g ≤ 9
   moved-interval =
-      lanes-cases t wish samples g (v .interval) (λ k s. k ≤ 9) (λ _ _. omega arith) (λ _. omega arith) (λ _. omega arith) (λ k m _ _. m)
+      lanes-cases t preemption wish samples g (v .interval) (λ k s. k ≤ 9) (λ _ _. omega arith) (λ _. omega arith) (λ _. omega arith) (λ k m _ _. m)
 
   with-release : (now : ℕ) (s : Lanes) → LanesGood (isOwn now) s (t .lanes)
       → LanesGood (isOwn now) (releaseOf s (releasedIn t cycle (samples .demand) now s)) (t .lanes)
@@ -247,7 +247,7 @@ module _ (t : Timings) (wish : Wish) (cycle : ℕ) (samples : Metered) (g : Grou
   released-most now s =
       by-test (eqb now 7) (λ e. rw e (released-in t cycle (samples .demand) s h)) (λ e. rw e (omega arith))
 
-  pub moved-released : movedOf t wish cycle samples g .released ≤ t .lanes
+  pub moved-released : movedOf t preemption wish cycle samples g .released ≤ t .lanes
   unfolding movedOf movedWith
   moved-released = released-most _ _
 
@@ -255,7 +255,7 @@ module _ (t : Timings) (wish : Wish) (cycle : ℕ) (samples : Metered) (g : Grou
   unfolding groupOf
   new-age now s = by-test (eqb now (g .interval)) (λ e. rw e (age-most (g .age))) (λ e. rw e (omega arith))
 
-  pub moved-good : GroupGood (movedOf t wish cycle samples g .group) (t .lanes)
+  pub moved-good : GroupGood (movedOf t preemption wish cycle samples g .group) (t .lanes)
   unfolding movedOf movedWith groupOf
   moved-good = record {
     interval = moved-interval;

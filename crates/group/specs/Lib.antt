@@ -1,4 +1,6 @@
 pub mod Intervals
+pub mod Preemption
 pub mod Group
+pub mod Steered
 pub mod Indications
 pub mod Range

@@ -1,10 +1,12 @@
 // One group of lanes: its interval, its lanes, and the lamps.
 mod indication;
 mod interval;
+mod preemption;
 mod range;
 
 ghost use mathlib.Core.Path.{_≡_};
 ghost use Rattle.group.specs.Group.{allRed, intervalOf, lanesIn, releasedIn, groupOf, movedOf};
+ghost use Rattle.group.specs.Steered.{Steered};
 pub use indication::Indications;
 pub use indication::all_dark;
 pub use indication::shown;
@@ -46,13 +48,17 @@ fn all_red(s: Lanes, n: u16) -> bool
     true
 }
 
-// The interval after a tick.
-fn interval_of(t: Timings, wish: Wish, g: Group) -> u16
-    ensures { λ r. ⌜ r ≡ intervalOf t wish g ⌝ }
+// The interval after a tick: held by preemption, or the next.
+fn interval_of(t: Timings, preemption: u16, wish: Wish, g: Group) -> u16
+    ensures { λ r. ⌜ r ≡ intervalOf t preemption wish g ⌝ }
 {
+    if preemption::held(preemption, g.interval) {
+        return g.interval;
+    }
     let s = g.lanes;
     let red = all_red(s, t.lanes);
-    interval::next(t, wish, interval::older(g.age), red, g.interval)
+    let steering = preemption::steered(preemption, wish);
+    interval::next(t, steering, interval::older(g.age), red, g.interval)
 }
 
 // The lanes after a tick from one interval to another, none released.
@@ -99,11 +105,19 @@ fn group_of(g: Group, now: u16, s: Lanes) -> Group
     }
 }
 
-// The group one tick later, under a wish with its cycle.
-pub fn tick(t: Timings, wish: Wish, cycle: u16, samples: Metered, g: Group) -> Moved
-    ensures { λ r. ⌜ r ≡ movedOf t wish cycle samples g ⌝ }
+// The group one tick later, under the fire service's call or none and a wish with its cycle.
+pub fn tick(
+    t: Timings,
+    preemption: u16,
+    wish: Wish,
+    cycle: u16,
+    samples: Metered,
+    g: Group,
+) -> Moved
+    ensures is { λ r. ⌜ r ≡ movedOf t preemption wish cycle samples g ⌝ }
+    ensures steered { λ r. ⌜ Steered t preemption wish g (r .group .interval) ⌝ }
 {
-    let now = interval_of(t, wish, g);
+    let now = interval_of(t, preemption, wish, g);
     let standing = g.lanes;
     let passage = samples.passage;
     let s = lanes_in(t, passage, g.interval, now, standing);

@@ -1,5 +1,5 @@
 -- Document 01, 'One tick's input': the detectors' samples. "All are range checked, even of a lane not working. Lanes beyond n or m are
--- ignored."
+-- ignored." And a call's sample, document 02.
 use Prim.Native.Nat.{ℕ}
 use mathlib.Core.Bool.{Bool, _||_}
 use lib.Dec.{ltb}
@@ -41,3 +41,7 @@ laneBad s =
 -- 9: a sample of one of the site's n metered or m mainline lanes is out of range.
 unfoldable pub samplesBad : Metered → Mainline → ℕ → ℕ → Bool
 samplesBad lanes main n m = anyFrom (λ i. meteredBad (meteredSampleOf lanes i)) 0 n || anyFrom (λ j. laneBad (laneSampleOf main j)) 0 m
+
+-- 9 too: "preemption 0 or 1"; "a value above 1 is the old 9" (document 02, A1).
+unfoldable pub callBad : ℕ → Bool
+callBad call = ltb (flags .high) call

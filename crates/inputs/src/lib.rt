@@ -1,7 +1,7 @@
-// One tick's samples and commands, and their ranges. The clock's date is the calendar's.
+// One tick's samples, calls and commands, and their ranges. The clock's date is the calendar's.
 ghost use mathlib.Core.Path.{_≡_};
 ghost use Rattle.loops.specs.Any.{anyFrom};
-ghost use Rattle.inputs.specs.Samples.{meteredBad, laneBad, samplesBad, meteredSampleOf, laneSampleOf};
+ghost use Rattle.inputs.specs.Samples.{meteredBad, laneBad, samplesBad, callBad, meteredSampleOf, laneSampleOf};
 ghost use Rattle.inputs.specs.Commands.{carriesNothing, commandBad, commandsBad};
 
 // A tick's samples of the metered lanes: each 0 or 1.
@@ -44,6 +44,9 @@ pub struct Command {
 pub const MOST_OCCUPIED: u16 = 100;
 
 pub const MOST_SPEED: u16 = 250;
+
+// The sample of a call while it is on.
+pub const CALLED: u16 = 1;
 
 // The kinds of commands.
 pub const NONE: u16 = 0;
@@ -166,6 +169,13 @@ pub fn samples_bad(lanes: Metered, main: Mainline, n: u16, m: u16) -> bool
         return true;
     }
     any_lane_bad(main, m)
+}
+
+// Whether the sample of a call, such as the fire service's, is out of range.
+pub fn call_bad(call: u16) -> bool
+    ensures { λ r. ⌜ r ≡ callBad call ⌝ }
+{
+    CALLED < call
 }
 
 // Whether a command has neither rate nor table.

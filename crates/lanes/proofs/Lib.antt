@@ -1,1 +1,2 @@
 pub mod LaneLaws
+pub mod RedLaws

@@ -4,16 +4,16 @@ use mathlib.Core.Path.{_≡_, refl, sym, _∙_}
 use mathlib.Core.Bool.{Bool, true, false, _&&_, true≢false}
 use mathlib.Core.List.{List}
 use native.Mathlib.Omega.{arith}
-use borrow.Author.Tests.{leb-true, eqb-true, eq-eqb, ne-eqb, le-leb}
+use borrow.Author.Tests.{leb-true, eqb-true, eqb-false, eq-eqb, ne-eqb, le-leb}
 use lib.Dec.{leb, eqb}
 use lib.ListN.{getD}
 use Rattle.timings.specs.declared.Timings.{Timings}
 use Rattle.lanes.specs.declared.Lane.{Lane}
 use Rattle.lanes.specs.declared.Lanes.{Lanes}
 use Rattle.lanes.specs.Intervals.{lane}
-use Rattle.lanes.specs.Lanes.{laneOf, lanesOf}
+use Rattle.lanes.specs.Lanes.{laneOf, lanesOf, lanesEntered}
 use Rattle.loops.proofs.Cases.{by-test}
-use Rattle.lanes.proofs.LaneLaws.{each-lane}
+use Rattle.lanes.proofs.LaneLaws.{each-lane, entered-in}
 use Rattle.release.specs.Release.{isReady, readyAt, mayRelease, releasedOf, greenIf, releaseOf}
 use Rattle.turns.proofs.TurnLaws.{first-in, first-holds}
 
@@ -97,3 +97,17 @@ module _ (t : Timings) (cycle : ℕ) (demand : List ℕ) (s : Lanes) where
       let back : i + 1 - 1 ≡ i = omega arith in
       let found = rw q at (released-ready (ne-eqb (releasedOf t cycle demand s) 0 (λ z. omega (arith, q)))) in
       ready t cycle (getD demand i 0) (laneOf s i) (rw back at found)
+
+-- On entering metering no lane has been red its minimum, so none is released.
+pub none-on-entry : (t : Timings) (cycle : ℕ) (demand : List ℕ) → 1 ≤ t .lanes → t .lanes ≤ 4 → 1 ≤ t .minred
+    → releasedOf t cycle demand (lanesEntered (t .lanes)) ≡ 0
+none-on-entry t cycle demand least most red =
+    let s = lanesEntered (t .lanes) in
+    let k = releasedOf t cycle demand s in
+    by-test (eqb k 0) (λ e. eqb-true k 0 e)
+    (λ e. let some : 1 ≤ k = omega (arith, eqb-false k 0 e) in
+    let back : k ≡ k - 1 + 1 = omega arith in
+    let in-site = released-in t cycle demand s least in
+    let r = released-lane t cycle demand s (k - 1) (eq-eqb k (k - 1 + 1) back) in
+    let long : t .minred ≤ 0 = rw (entered-in (t .lanes) (k - 1) (omega arith) (omega arith)) at (r .long) in
+    absurd (omega arith))

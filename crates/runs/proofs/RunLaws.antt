@@ -27,6 +27,12 @@ module _ {Course Call : Type 0} (onward : Course → Call → Course) (accepted 
       let p = split-run P (onward c call) before run (a .1) in
       ((a .0, p .0), p .1)
 
+  -- Two things at each accepted call.
+  pub both-run : (P Q : Course → Call → Type 0) (c : Course) (calls : List Call) → AtEach onward accepted P c calls → AtEach onward accepted Q c calls
+      → AtEach onward accepted (λ c call. P c call × Q c call) c calls
+  both-run P Q c [] a b = tt
+  both-run P Q c (call ∷ calls) a b = ((λ e. (a .0 e, b .0 e)), both-run P Q (onward c call) calls (a .1) (b .1))
+
   module _ (Going : Course → Type 0) (Given : Course → Call → Type 0)
       (keeps : (c : Course) (call : Call) → Going c → (accepted c call ≡ true → Given c call) → Going (onward c call)) where
     -- What every call keeps holds after a list of them.

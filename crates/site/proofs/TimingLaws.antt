@@ -28,6 +28,11 @@ pub record TimingsGood (t : NamedTimings) : Type 0 where
   pub yellow-most : t .yellow ≤ 60
   pub red-least : 10 ≤ t .minred
   pub red-most : t .minred ≤ 100
+  pub warning : (10 ≤ t .warning) × (t .warning ≤ 600)
+  pub startgreen : (10 ≤ t .startgreen) × (t .startgreen ≤ 600)
+  pub startyellow : (10 ≤ t .startyellow) × (t .startyellow ≤ 60)
+  pub startred : (10 ≤ t .startred) × (t .startred ≤ 600)
+  pub shutdown : (10 ≤ t .shutdown) × (t .shutdown ≤ 600)
   pub mainline-most : t .mainline ≤ 6
 
 module _ (x : Site) (ok : spoiltSite x ≡ false) where
@@ -61,5 +66,10 @@ module _ (x : Site) (ok : spoiltSite x ≡ false) where
         yellow-most = yellow .1;
         red-least = red .0;
         red-most = red .1;
+        warning = ends-of 7 (omega arith);
+        startgreen = ends-of 8 (omega arith);
+        startyellow = ends-of 9 (omega arith);
+        startred = ends-of 10 (omega arith);
+        shutdown = ends-of 11 (omega arith);
         mainline-most = ends-of 14 (omega arith) .1;
       }

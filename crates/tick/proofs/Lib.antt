@@ -1,2 +1,4 @@
 pub mod TickLaws
+pub mod CourseLaws
 pub mod WaitingLaws
+pub mod PreemptionLaws

@@ -3,12 +3,15 @@ use Prim.Native.Nat.{ℕ, _≤_}
 use mathlib.Core.Path.{_≡_, refl}
 use mathlib.Core.Bool.{Bool, true, false, cond}
 use native.Mathlib.Omega.{arith}
+use lib.Dec.{eqb}
+use Rattle.loops.proofs.AnyLaws.{neither}
+use Rattle.loops.proofs.Cases.{by-test}
 use Rattle.site.specs.declared.Site.{Site}
 use Rattle.site.specs.Record.{spoiltSite}
 use Rattle.site.specs.Named.{timingsOf, meteredLanes, mainlineLanes, shapeOf}
 use Rattle.site.proofs.TimingLaws.{timings-good}
 use Rattle.calendar.specs.Clock.{clockBad}
-use Rattle.inputs.specs.Samples.{samplesBad}
+use Rattle.inputs.specs.Samples.{samplesBad, callBad}
 use Rattle.inputs.specs.Commands.{commandsBad}
 use Rattle.period.proofs.RangeLaws.{periods-released}
 use Rattle.wanted.specs.declared.wish.Wish.{Wish}
@@ -18,13 +21,14 @@ use Rattle.wanted.proofs.RateLaws.{WishGood, wish-good, rate-cases}
 use Rattle.release.specs.Cycle.{cycleTicks}
 use Rattle.release.proofs.CycleLaws.{cycle-most, cycle-least, no-cycle}
 use Rattle.group.specs.Intervals.{fromMetering}
+use Rattle.group.specs.Preemption.{steeredWish}
 use Rattle.group.proofs.RangeLaws.{moved-good, moved-released}
 use Rattle.state.specs.declared.State.{State}
 use Rattle.state.specs.State.{stateSpoilt}
 use Rattle.state.proofs.StateLaws.{StateGood, state-good}
 use Rattle.waiting.proofs.LaneRank.{Sound}
 use Rattle.tick.specs.declared.Input.{Input}
-use Rattle.tick.specs.Checks.{inputRefusal, tickRefusal}
+use Rattle.tick.specs.Checks.{sampleBad, inputRefusal, tickRefusal}
 use Rattle.tick.specs.Tick.{countedIn, decidedIn, cycleIn, movedIn, acceptedTick}
 
 pub record Accepted (x : Site) (s : State) (i : Input) : Type 0 where
@@ -32,6 +36,7 @@ pub record Accepted (x : Site) (s : State) (i : Input) : Type 0 where
   pub state : stateSpoilt s (shapeOf x) ≡ false
   pub clock : clockBad (i .clock) ≡ false
   pub samples : samplesBad (i .lanes) (i .main) (meteredLanes x) (mainlineLanes x) ≡ false
+  pub call : callBad (i .preemption) ≡ false
   pub commands : commandsBad (i .manual) (i .centre) ≡ false
 
 -- Where a check's answer is 0, what it asks does not hold, and the rest answers 0.
@@ -40,14 +45,15 @@ passes true k rest h e = absurd (omega arith)
 passes false k rest h e = (refl, e)
 
 pub accepted : (x : Site) (s : State) (i : Input) → tickRefusal x s i ≡ 0 → Accepted x s i
-unfolding tickRefusal inputRefusal
+unfolding tickRefusal inputRefusal sampleBad
 accepted x s i e =
     let p = passes (spoiltSite x) 14 _ (omega arith) e in
     let q = passes (stateSpoilt s (shapeOf x)) 13 _ (omega arith) (p .1) in
     let r = passes (clockBad (i .clock)) 8 _ (omega arith) (q .1) in
-    let u = passes (samplesBad (i .lanes) (i .main) (meteredLanes x) (mainlineLanes x)) 9 _ (omega arith) (r .1) in
+    let u = passes (sampleBad (shapeOf x) i) 9 _ (omega arith) (r .1) in
+    let w = neither (samplesBad (i .lanes) (i .main) (meteredLanes x) (mainlineLanes x)) (callBad (i .preemption)) (u .0) in
     let v = passes (commandsBad (i .manual) (i .centre)) 10 0 (omega arith) (u .1) in
-    record { site = p .0; state = q .0; clock = r .0; samples = u .0; commands = v .0 }
+    record { site = p .0; state = q .0; clock = r .0; samples = w .0; call = w .1; commands = v .0 }
 
 -- The timings of a site that is not spoilt.
 pub sound-timings : (x : Site) → spoiltSite x ≡ false → Sound (timingsOf x)
@@ -84,9 +90,12 @@ module _ (x : Site) (s : State) (i : Input) (a : Accepted x s i) where
       rate-cases (decidedIn x s i .wish) (λ r. cycleTicks vehicles r ≤ 720) wish-in (rw (no-cycle vehicles) (omega arith))
       (λ r h. cycle-most vehicles r (g .vehicles-most) h)
 
-  pub some-cycle : fromMetering (decidedIn x s i .wish) ≡ 7 → 1 ≤ cycleIn x s i
-  unfolding cycleIn
-  some-cycle e = metering-cycle (decidedIn x s i .wish) wish-in (timingsOf x .vehicles) (timings-good x (a .site) .vehicles-least) e
+  pub some-cycle : fromMetering (steeredWish (i .preemption) (decidedIn x s i .wish)) ≡ 7 → 1 ≤ cycleIn x s i
+  unfolding cycleIn steeredWish
+  some-cycle e =
+      by-test (eqb (i .preemption) 1)
+      (λ p. let y : fromMetering Clear ≡ 7 = rw p at e in absurd (omega arith))
+      (λ p. metering-cycle (decidedIn x s i .wish) wish-in (timingsOf x .vehicles) (timings-good x (a .site) .vehicles-least) (rw p at e))
 
   pub tick-keeps : StateGood (acceptedTick x s i .state) (shapeOf x)
   unfolding acceptedTick movedIn countedIn
@@ -97,7 +106,7 @@ module _ (x : Site) (s : State) (i : Input) (a : Accepted x s i) where
       let h = timings-good x (a .site) .lanes-least in
       let wish = decidedIn x s i .wish in
       record {
-        group = moved-good (timingsOf x) wish (cycleIn x s i) (i .lanes) (s .group) h (g .group);
+        group = moved-good (timingsOf x) (i .preemption) wish (cycleIn x s i) (i .lanes) (s .group) h (g .group);
         periods = periods-released (s .periods) (i .lanes) (i .main) n m _ (g .periods) (a .samples)
-            (moved-released (timingsOf x) wish (cycleIn x s i) (i .lanes) (s .group) h (g .group));
+            (moved-released (timingsOf x) (i .preemption) wish (cycleIn x s i) (i .lanes) (s .group) h (g .group));
       }

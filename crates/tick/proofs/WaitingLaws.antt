@@ -1,17 +1,17 @@
 -- The waiting bound: the group's rank falls at each accepted tick of a run that does not release the waiting lane, and a refused tick changes
 -- nothing.
 use Prim.Native.Nat.{ℕ, _+_, _-_, _≤_, _<_, max, min}
-use mathlib.Core.Path.{_≡_, refl, sym, _∙_, ap, subst}
+use mathlib.Core.Path.{_≡_, sym, _∙_, ap, subst}
 use mathlib.Core.Bool.{true, false, true≢false}
 use native.Mathlib.Omega.{arith}
 use native.Mathlib.Nat.{mul-le-mul-left}
-use borrow.Author.Tests.{eqb-true, eq-eqb}
+use borrow.Author.Tests.{eq-eqb}
 use lib.Dec.{eqb}
 use lib.ListN.{getD}
 use Rattle.runs.proofs.RunLaws.{split-run, reached, within}
 use Rattle.site.specs.declared.Site.{Site}
 use Rattle.site.specs.Record.{spoiltSite}
-use Rattle.site.specs.Named.{timingsOf, meteredLanes, shapeOf}
+use Rattle.site.specs.Named.{timingsOf, meteredLanes}
 use Rattle.site.proofs.TimingLaws.{timings-good}
 use Rattle.timings.specs.declared.Timings.{Timings}
 use Rattle.loops.proofs.Cases.{by-test}
@@ -22,44 +22,16 @@ use Rattle.group.specs.declared.indication.Indications.{Indications}
 use Rattle.group.specs.Indications.{laneShown, indicationsOf}
 use Rattle.group.proofs.RangeLaws.{GroupGood}
 use Rattle.state.specs.declared.State.{State}
-use Rattle.state.specs.State.{freshState}
-use Rattle.state.proofs.StateLaws.{StateGood, fresh-good}
 use Rattle.waiting.specs.Bound.{turnTicks, waitingBound}
 use Rattle.waiting.proofs.LaneRank.{Sound}
-use Rattle.waiting.proofs.Chain.{Chain, chain-enter, chain-moved}
 use Rattle.waiting.proofs.GroupRank.{groupRank, group-rank-most, group-falls, shown-red, shown-green}
 use Rattle.tick.specs.declared.Input.{Input}
 use Rattle.tick.specs.declared.Ticked.{Ticked}
-use Rattle.tick.specs.Checks.{tickRefusal}
-use Rattle.tick.specs.Tick.{powerUpOf, decidedIn, cycleIn, movedIn, acceptedTick, refusedTick, tickOf}
-use Rattle.tick.specs.Waiting.{Call, Course, atPowerUp, answerTo, isAccepted, onward, courseAfter, AtAccepted, Waits, greenBegins, beginsWithin, WaitingBound}
-use Rattle.tick.proofs.TickLaws.{Accepted, accepted, sound-timings, cycle-in, some-cycle, tick-keeps}
-
--- A tick is accepted where no check refuses it, and is then what the rules make of it; a refused one leaves all as it was.
-module _ (c : Course) (call : Call) where
-  abbrev refusal : ℕ
-  refusal = tickRefusal (call .site) (c .state) (call .input)
-
-  not-refused : isAccepted c call ≡ true → refusal ≡ 0
-  unfolding isAccepted answerTo tickOf refusedTick
-  not-refused e =
-      by-test (eqb refusal 0) (λ f. eqb-true refusal 0 f) (λ f. absurd (true≢false (sym (rw f at e) ∙ f)))
-
-  answer-accepted : isAccepted c call ≡ true → answerTo c call ≡ acceptedTick (call .site) (c .state) (call .input)
-  unfolding answerTo tickOf
-  answer-accepted e = rw (eq-eqb refusal 0 (not-refused e))
-
-  was-refused : isAccepted c call ≡ false → eqb refusal 0 ≡ false
-  unfolding isAccepted answerTo tickOf acceptedTick
-  was-refused e = by-test (eqb refusal 0) (λ f. absurd (true≢false (rw f at e))) (λ f. f)
-
-  same-state : isAccepted c call ≡ false → answerTo c call .state ≡ c .state
-  unfolding answerTo tickOf refusedTick
-  same-state e = rw (was-refused e)
-
-  pub stays : isAccepted c call ≡ false → onward c call ≡ c
-  unfolding onward
-  stays e = rw (e, same-state e)
+use Rattle.tick.specs.Tick.{decidedIn, cycleIn, movedIn, acceptedTick}
+use Rattle.tick.specs.Course.{Call, Course, atPowerUp, answerTo, isAccepted, onward, courseAfter, AtAccepted}
+use Rattle.tick.specs.Waiting.{Waits, greenBegins, beginsWithin, WaitingBound}
+use Rattle.tick.proofs.TickLaws.{cycle-in, some-cycle}
+use Rattle.tick.proofs.CourseLaws.{stays, sound, Going, start, passed, answer, keeps, group-is, released-is}
 
 -- What lane j shows.
 colours-at : (g : Group) (n j : ℕ) → j < 4 → getD (indicationsOf g n .colours) j 0 ≡ laneShown g n j
@@ -78,61 +50,7 @@ bound-grows t ok a b h =
     both p = omega arith
 
 module _ (x : Site) (ok : spoiltSite x ≡ false) where
-  abbrev t : Timings
-  t = timingsOf x
-
-  sound : Sound (timingsOf x)
-  sound = sound-timings x ok
-
-  -- What holds since power-up. Once the group is in metering, the lamps last shown are those of the state.
-  record Going (c : Course) : Type 0 where
-    good : StateGood (c .state) (shapeOf x)
-    chain : Chain (timingsOf x) (c .state .group .lanes)
-    lamps : c .state .group .interval ≡ 7 → c .shown ≡ indicationsOf (c .state .group) (meteredLanes x)
-
-  start : Going (atPowerUp x)
-  unfolding atPowerUp powerUpOf freshState
-  start =
-      let g = fresh-good (shapeOf x) (timings-good x ok .lanes-least) in
-      rw ok (record { good = g; chain = chain-enter (timingsOf x) sound; lamps = λ z. absurd (omega arith) })
-
-  module _ (c : Course) (call : Call) (going : Going c) (same : isAccepted c call ≡ true → call .site ≡ x) where
-    -- An accepted tick, at the power-up's site.
-    passed : isAccepted c call ≡ true → Accepted x (c .state) (call .input)
-    passed e = accepted x (c .state) (call .input) (subst (λ (y : Site). tickRefusal y (c .state) (call .input) ≡ 0) (same e) (not-refused c call e))
-
-    answer : isAccepted c call ≡ true → answerTo c call ≡ acceptedTick x (c .state) (call .input)
-    answer e = answer-accepted c call e ∙ ap (λ y. acceptedTick y (c .state) (call .input)) (same e)
-
-    onward-state : isAccepted c call ≡ true → onward c call .state ≡ acceptedTick x (c .state) (call .input) .state
-    unfolding onward
-    onward-state e = ap (λ r. r .state) (answer e)
-
-    abbrev next : Course
-    next = record { state = acceptedTick x (c .state) (call .input) .state; shown = acceptedTick x (c .state) (call .input) .shown }
-
-    onward-is : isAccepted c call ≡ true → onward c call ≡ next
-    unfolding onward
-    onward-is e = rw (e, answer e)
-
-    moved-on : Accepted x (c .state) (call .input) → Going next
-    unfolding acceptedTick movedIn
-    moved-on a =
-        let s = c .state in
-        let i = call .input in
-        record {
-          good = tick-keeps x s i a;
-          chain = chain-moved (timingsOf x) sound (decidedIn x s i .wish) (cycleIn x s i) (i .lanes) (s .group) (going .good .group) (going .chain);
-          lamps = λ _. refl;
-        }
-
-    -- Every tick, accepted or refused, keeps it.
-    keeps : Going (onward c call)
-    keeps =
-        by-test (isAccepted c call)
-        (λ e. subst Going (sym (onward-is e)) (moved-on (passed e)))
-        (λ e. subst Going (sym (stays c call e)) going)
-
+  module _ (c : Course) (call : Call) (going : Going x ok c) (same : isAccepted c call ≡ true → call .site ≡ x) where
     module _ (most : ℕ) (j : ℕ) (hj : j < meteredLanes x) (w : isAccepted c call ≡ true → Waits (j + 1) most c call) where
       abbrev least : ℕ
       least = min most 720
@@ -150,23 +68,15 @@ module _ (x : Site) (ok : spoiltSite x ≡ false) where
       in-site : j < timingsOf x .lanes
       in-site = hj
 
-      released-is : isAccepted c call ≡ true → answerTo c call .released ≡ movedIn x s i .released
-      unfolding acceptedTick
-      released-is e = ap (λ r. r .released) (answer e)
-
-      group-is : isAccepted c call ≡ true → onward c call .state .group ≡ movedIn x s i .group
-      unfolding acceptedTick
-      group-is e = ap (λ (q : State). q .group) (onward-state e)
-
       cycle-small : (e : isAccepted c call ≡ true) → cycleIn x s i ≤ least
       unfolding acceptedTick
       cycle-small e =
-          let asked : cycleIn x s i ≤ most = subst (λ (r : Ticked). r .cycle ≤ most) (answer e) (w e .cycle) in
-          omega (arith, asked, cycle-in x s i (passed e))
+          let asked : cycleIn x s i ≤ most = subst (λ (r : Ticked). r .cycle ≤ most) (answer x ok c call going same e) (w e .cycle) in
+          omega (arith, asked, cycle-in x s i (passed x ok c call going same e))
 
       metering-after : isAccepted c call ≡ true → movedIn x s i .group .interval ≡ 7
       unfolding acceptedTick
-      metering-after e = subst (λ (r : Ticked). r .state .group .interval ≡ 7) (answer e) (w e .metering)
+      metering-after e = subst (λ (r : Ticked). r .state .group .interval ≡ 7) (answer x ok c call going same e) (w e .metering)
 
       demand-on : isAccepted c call ≡ true → getD (i .lanes .demand) j 0 ≡ 1
       demand-on e = let back : j + 1 - 1 ≡ j = omega arith in rw back at (w e .demand)
@@ -175,9 +85,9 @@ module _ (x : Site) (ok : spoiltSite x ≡ false) where
       rank-falls : (e : isAccepted c call ≡ true) → eqb (movedIn x s i .released) (j + 1) ≡ false → rank (onward c call) < rank c
       unfolding movedIn
       rank-falls e miss =
-          rw (group-is e)
-          (group-falls (timingsOf x) sound least j in-site (decidedIn x s i .wish) (cycleIn x s i) (i .lanes) (s .group) (going .good .group) (going .chain)
-          (omega arith) (some-cycle x s i (passed e)) (cycle-small e) (demand-on e) (metering-after e) miss)
+          rw (group-is x ok c call going same e)
+          (group-falls (timingsOf x) (sound x ok) least j in-site (i .preemption) (decidedIn x s i .wish) (cycleIn x s i) (i .lanes) (s .group) (going .good .group) (going .chain)
+          (omega arith) (some-cycle x s i (passed x ok c call going same e)) (cycle-small e) (demand-on e) (metering-after e) miss)
 
       -- and at one that does, its green begins.
       begins : (e : isAccepted c call ≡ true) → eqb (movedIn x s i .released) (j + 1) ≡ true → greenBegins (j + 1) c call ≡ true
@@ -187,20 +97,20 @@ module _ (x : Site) (ok : spoiltSite x ≡ false) where
           let place : j < 4 = omega (arith, timings-good x ok .lanes-most) in
           let n = meteredLanes x in
           let g = movedIn x s i .group in
-          let before = shown-red (timingsOf x) sound least j in-site (decidedIn x s i .wish) (cycleIn x s i) (i .lanes) (s .group) (going .good .group) (going .chain) hit in
-          let after = shown-green (timingsOf x) sound least j in-site (decidedIn x s i .wish) (cycleIn x s i) (i .lanes) (s .group) (going .good .group) (going .chain) hit in
+          let before = shown-red (timingsOf x) (sound x ok) least j in-site (i .preemption) (decidedIn x s i .wish) (cycleIn x s i) (i .lanes) (s .group) (going .good .group) (going .chain) hit in
+          let after = shown-green (timingsOf x) (sound x ok) least j in-site (i .preemption) (decidedIn x s i .wish) (cycleIn x s i) (i .lanes) (s .group) (going .good .group) (going .chain) hit in
           let red : getD (c .shown .colours) j 0 ≡ 1 =
           ap (λ (d : Indications). getD (d .colours) j 0) (going .lamps (before .0)) ∙ colours-at (s .group) n j place ∙ before .1 in
           let green : getD (answerTo c call .shown .colours) j 0 ≡ 3 =
-          ap (λ (r : Ticked). getD (r .shown .colours) j 0) (answer e) ∙ colours-at g n j place ∙ after in
-          rw (back, released-is e, hit, eq-eqb (getD (answerTo c call .shown .colours) j 0) 3 green, eq-eqb (getD (c .shown .colours) j 0) 1 red)
+          ap (λ (r : Ticked). getD (r .shown .colours) j 0) (answer x ok c call going same e) ∙ colours-at g n j place ∙ after in
+          rw (back, released-is x ok c call going same e, hit, eq-eqb (getD (answerTo c call .shown .colours) j 0) 3 green, eq-eqb (getD (c .shown .colours) j 0) 1 red)
 
   -- A tick at which the lane waits and its green does not begin brings it nearer.
   module _ (most : ℕ) (j : ℕ) (hj : j < meteredLanes x) where
     abbrev rank-of : Course → ℕ
     rank-of c = groupRank (timingsOf x) (min most 720) j (c .state .group)
 
-    falls : (c : Course) (call : Call) → Going c → isAccepted c call ≡ true → call .site ≡ x → Waits (j + 1) most c call
+    falls : (c : Course) (call : Call) → Going x ok c → isAccepted c call ≡ true → call .site ≡ x → Waits (j + 1) most c call
         → greenBegins (j + 1) c call ≡ false → rank-of (onward c call) < rank-of c
     falls c call going e same waits none =
         by-test (eqb (movedIn x (c .state) (call .input) .released) (j + 1))
@@ -214,16 +124,15 @@ waiting-bound x ok before run same i most least in-site waiting long =
     let parts = split-run onward isAccepted (λ c call. call .site ≡ x) (atPowerUp x) before run same in
     let c = courseAfter (atPowerUp x) before in
     let going = reached onward isAccepted (Going x ok) (λ c call. call .site ≡ x) (keeps x ok) (atPowerUp x) before (start x ok) (parts .0) in
-    let sound = sound-timings x ok in
     let j = i - 1 in
     let place : i ≡ j + 1 = omega arith in
     let hj : j < meteredLanes x = omega arith in
-    let low = group-rank-most t sound (min most 720) j (lanes-are hj) (c .state .group) (good-group-of (going .good .group)) (going .chain) in
+    let low = group-rank-most t (sound x ok) (min most 720) j (lanes-are hj) (c .state .group) (good-group-of (going .good .group)) (going .chain) in
     subst (λ (k : ℕ). beginsWithin k (waitingBound t most) c run ≡ true) (sym place)
     (within onward isAccepted (Going x ok) (λ c call. call .site ≡ x) (keeps x ok) (Waits (j + 1) most) (greenBegins (j + 1)) (rank-of x ok most j hj) stays
     (falls x ok most j hj) (waitingBound t most) c run going (parts .1)
     (subst (λ (k : ℕ). AtAccepted (Waits k most) c run) place waiting)
-    (omega (arith, low, bound-grows t sound (min most 720) most (omega arith))) long)
+    (omega (arith, low, bound-grows t (sound x ok) (min most 720) most (omega arith))) long)
   where
     lanes-are : {j : ℕ} → j < meteredLanes x → j < timingsOf x .lanes
     lanes-are h = h

@@ -38,7 +38,7 @@ unfoldable pub cycleIn : Site → State → Input → ℕ
 cycleIn x s i = cycleTicks (timingsOf x .vehicles) (rateOf (decidedIn x s i .wish))
 
 unfoldable pub movedIn : Site → State → Input → Moved
-movedIn x s i = movedOf (timingsOf x) (decidedIn x s i .wish) (cycleIn x s i) (i .lanes) (s .group)
+movedIn x s i = movedOf (timingsOf x) (i .preemption) (decidedIn x s i .wish) (cycleIn x s i) (i .lanes) (s .group)
 
 unfoldable pub acceptedTick : Site → State → Input → Ticked
 acceptedTick x s i =

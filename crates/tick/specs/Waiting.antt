@@ -1,58 +1,21 @@
--- Demand 3: "A waiting metered lane is never passed over for long." One claim about the whole list of ticks since power-up. All of it is what
--- the rules give from the sites and inputs handed in; the calls promise that what they return is that.
+-- Demand 3: "A waiting metered lane is never passed over for long." One claim about the whole list of ticks since power-up.
 use Prim.Native.Nat.{ℕ, _-_, _≤_}
 use mathlib.Core.Path.{_≡_}
-use mathlib.Core.Bool.{Bool, true, false, cond, _&&_}
+use mathlib.Core.Bool.{Bool, true, false, _&&_}
 use mathlib.Core.List.{List, _++_}
 use lib.Dec.{eqb}
 use lib.ListN.{getD}
-use Rattle.runs.specs.Runs.{after, AtEach, acceptedIn, happensWithin}
+use Rattle.runs.specs.Runs.{happensWithin}
 use Rattle.site.specs.declared.Site.{Site}
 use Rattle.site.specs.Record.{spoiltSite}
 use Rattle.site.specs.Named.{timingsOf, meteredLanes}
-use Rattle.group.specs.declared.indication.Indications.{Indications}
-use Rattle.group.specs.Indications.{allDark}
-use Rattle.state.specs.declared.State.{State}
 use Rattle.waiting.specs.Bound.{waitingBound}
-use Rattle.tick.specs.declared.Input.{Input}
-use Rattle.tick.specs.declared.Ticked.{Ticked}
-use Rattle.tick.specs.Tick.{powerUpOf, tickOf}
+use Rattle.tick.specs.Course.{Call, Course, atPowerUp, answerTo, isAccepted, onward, courseAfter, AtAccepted, acceptedTicks}
 
--- A tick as it is handed in, with any site and input.
-pub record Call : Type 0 where
-  pub site : Site
-  pub input : Input
-
--- What a list of ticks has come to: the state, and the indications of the last accepted tick; before one there are none, all dark.
-pub record Course : Type 0 where
-  pub state : State
-  pub shown : Indications
-
-unfoldable pub atPowerUp : Site → Course
-atPowerUp x = record { state = powerUpOf x .state; shown = allDark }
-
--- "Each tick is given the state that power-up or the tick before returned."
-unfoldable pub answerTo : Course → Call → Ticked
-answerTo c call = tickOf (call .site) (c .state) (call .input)
-
-unfoldable pub isAccepted : Course → Call → Bool
-isAccepted c call = eqb (answerTo c call .refusal) 0
-
-unfoldable pub onward : Course → Call → Course
-onward c call = record { state = answerTo c call .state; shown = cond (isAccepted c call) (answerTo c call .shown) (c .shown) }
-
--- What a list of ticks comes to; what holds at each accepted one; how many are accepted.
-abbrev pub courseAfter : Course → List Call → Course
-courseAfter = after onward
-
-abbrev pub AtAccepted : (Course → Call → Type 0) → Course → List Call → Type 0
-AtAccepted = AtEach onward isAccepted
-
-abbrev pub acceptedTicks : Course → List Call → ℕ
-acceptedTicks = acceptedIn onward isAccepted
-
--- Lane i, from 1, waits at a tick: "the lane's demand is on, the group, the tick done, is in metering, and no cycle in force exceeds C".
+-- Lane i, from 1, waits at a tick: "the lane's demand is on, the group, the tick done, is in metering, and no cycle in force exceeds C". "The
+-- waiting bound covers ticks without preemption" (document 02, A1).
 pub record Waits (i most : ℕ) (c : Course) (call : Call) : Type 0 where
+  pub preemption : call .input .preemption ≡ 0
   pub demand : getD (call .input .lanes .demand) (i - 1) 0 ≡ 1
   pub metering : answerTo c call .state .group .interval ≡ 7
   pub cycle : answerTo c call .cycle ≤ most

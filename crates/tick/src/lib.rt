@@ -6,9 +6,10 @@ ghost use Rattle.site.specs.Named.{shapeOf};
 ghost use Rattle.wanted.specs.Wish.{rateOf};
 ghost use Rattle.release.specs.Cycle.{cycleTicks};
 ghost use Rattle.state.specs.State.{stateSpoilt};
-ghost use Rattle.tick.specs.Checks.{inputRefusal, tickRefusal};
+ghost use Rattle.tick.specs.Checks.{sampleBad, inputRefusal, tickRefusal};
 ghost use Rattle.tick.specs.Tick.{powerUpOf, acceptedTick, refusedTick, tickOf};
 ghost use Rattle.tick.specs.Waiting.{WaitingBound};
+ghost use Rattle.tick.specs.Preemption.{PreemptionClears};
 use calendar::Clock;
 use group::Indications;
 use inputs::Command;
@@ -20,12 +21,13 @@ use timings::Shape;
 use wanted::Decision;
 use wanted::Wish;
 
-// What a tick is given: the clock, the detectors' samples, the technician's command and the control
-// centre's.
+// What a tick is given: the clock, the detectors' samples, the fire service's call (1 while it is on),
+// the technician's command and the control centre's.
 pub struct Input {
     pub clock: Clock,
     pub lanes: Metered,
     pub main: Mainline,
+    pub preemption: u16,
     pub manual: Command,
     pub centre: Command,
 }
@@ -47,11 +49,13 @@ pub struct PoweredUp {
     pub state: State,
 }
 
-// The state from which ticks begin. Whatever they are given, no waiting lane is passed over for long.
+// The state from which ticks begin. Whatever they are given, no waiting lane is passed over for long,
+// and the fire service's call soon finds the ramp dark or green, and holds it so.
 pub fn power_up(site: Site) -> PoweredUp
     ensures is { λ r. ⌜ r ≡ powerUpOf site ⌝ }
     ensures kept { λ r. ⌜ (r .refusal ≡ 0 → stateSpoilt (r .state) (shapeOf site) ≡ false) ⌝ }
     ensures waits { λ _. ⌜ WaitingBound site ⌝ }
+    ensures clears { λ _. ⌜ PreemptionClears site ⌝ }
 {
     if site::spoilt(site) {
         return PoweredUp {
@@ -65,6 +69,18 @@ pub fn power_up(site: Site) -> PoweredUp
     }
 }
 
+// Whether a detector's sample or the call's is out of range.
+fn sample_bad(shape: Shape, input: Input) -> bool
+    ensures { λ r. ⌜ r ≡ sampleBad shape input ⌝ }
+{
+    let lanes = input.lanes;
+    let main = input.main;
+    if inputs::samples_bad(lanes, main, shape.lanes, shape.mainline) {
+        return true;
+    }
+    inputs::call_bad(input.preemption)
+}
+
 // Which check refuses a tick's input, or 0.
 fn input_refusal(shape: Shape, input: Input) -> u8
     ensures { λ r. ⌜ r ≡ inputRefusal shape input ⌝ }
@@ -73,9 +89,7 @@ fn input_refusal(shape: Shape, input: Input) -> u8
     if calendar::clock_bad(clock) {
         return calendar::BAD_CLOCK;
     }
-    let lanes = input.lanes;
-    let main = input.main;
-    if inputs::samples_bad(lanes, main, shape.lanes, shape.mainline) {
+    if sample_bad(shape, input) {
         return inputs::BAD_SAMPLE;
     }
     let manual = input.manual;
@@ -127,7 +141,7 @@ fn advance(site: Site, state: State, input: Input) -> Ticked
     let wish = decision.wish;
     let cycle = cycle_of(t.vehicles, wish);
     let group = state.group;
-    let moved = group::tick(t, wish, cycle, lanes, group);
+    let moved = group::tick(t, input.preemption, wish, cycle, lanes, group);
     let after = moved.group;
     Ticked {
         refusal: 0, // no check refuses
@@ -168,11 +182,13 @@ fn refused(site: Site, state: State, refusal: u8) -> Ticked
     }
 }
 
-// One tick. Over the ticks since power-up no waiting lane is passed over for long.
+// One tick. Over the ticks since power-up no waiting lane is passed over for long, and the fire
+// service's call soon finds the ramp dark or green, and holds it so.
 pub fn tick(site: Site, state: State, input: Input) -> Ticked
     ensures is { λ r. ⌜ r ≡ tickOf site state input ⌝ }
     ensures kept { λ r. ⌜ (r .refusal ≡ 0 → stateSpoilt (r .state) (shapeOf site) ≡ false) ⌝ }
     ensures waits { λ _. ⌜ WaitingBound site ⌝ }
+    ensures clears { λ _. ⌜ PreemptionClears site ⌝ }
 {
     let refusal = refusal_of(site, state, input);
     if refusal != 0 {

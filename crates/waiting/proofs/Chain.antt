@@ -95,15 +95,15 @@ module _ (t : Timings) (ok : Sound t) where
       (λ e. rw (e, none-released s 0 refl) w)
 
   -- A tick of the group keeps it.
-  module _ (wish : Wish) (cycle : ℕ) (samples : Metered) (g : Group) (v : GroupGood g (t .lanes)) (w : Chain t (g .lanes)) where
-    pub chain-lanes : Chain t (lanesMoved t wish samples g)
+  module _ (preemption : ℕ) (wish : Wish) (cycle : ℕ) (samples : Metered) (g : Group) (v : GroupGood g (t .lanes)) (w : Chain t (g .lanes)) where
+    pub chain-lanes : Chain t (lanesMoved t preemption wish samples g)
     chain-lanes =
-        lanes-cases t wish samples g (v .interval) (λ _ s. Chain t s)
+        lanes-cases t preemption wish samples g (v .interval) (λ _ s. Chain t s)
         (λ _ _. chain-tick _ (g .lanes) (samples .passage) (v .lanes) w)
         (λ _. chain-enter)
         (λ _. chain-tick _ (g .lanes) (samples .passage) (v .lanes) w)
         (λ _ _ _ _. w)
 
-    pub chain-moved : Chain t (movedOf t wish cycle samples g .group .lanes)
+    pub chain-moved : Chain t (movedOf t preemption wish cycle samples g .group .lanes)
     unfolding movedOf movedWith groupOf
     chain-moved = chain-released _ _ cycle (samples .demand) chain-lanes

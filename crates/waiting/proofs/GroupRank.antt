@@ -16,16 +16,18 @@ use Rattle.lanes.specs.Intervals.{lane}
 use Rattle.lanes.specs.Lanes.{laneOf, lanesTick, lanesEntered}
 use Rattle.loops.proofs.Cases.{by-test}
 use Rattle.lanes.proofs.LaneLaws.{lane-in, entered-in}
+use Rattle.lanes.proofs.RedLaws.{redIn}
 use Rattle.release.specs.Release.{releasedOf, releaseOf}
-use Rattle.release.proofs.ReleaseLaws.{lane-goes, lane-stays, released-in, may-release, released-lane}
+use Rattle.release.proofs.ReleaseLaws.{lane-goes, lane-stays, released-in, may-release, released-lane, none-on-entry}
 use Rattle.group.specs.declared.Group.{Group}
 use Rattle.group.specs.Intervals.{fromMetering}
+use Rattle.group.specs.Preemption.{steeredWish}
 use Rattle.group.specs.Group.{intervalOf, lanesMoved, releasedIn, groupOf, movedWith, movedOf}
 use Rattle.group.specs.Indications.{colourShown, laneShown}
 use Rattle.group.proofs.IntervalLaws.{isOwn, lanes-cases}
 use Rattle.group.proofs.RangeLaws.{GroupGood, lanes-enter, lanes-release}
 use Rattle.waiting.specs.Bound.{waitingBound}
-use Rattle.waiting.proofs.LaneRank.{Sound, redIn, readyIn, was-red}
+use Rattle.waiting.proofs.LaneRank.{Sound, readyIn, was-red}
 use Rattle.waiting.proofs.Chain.{Chain, chain-enter, chain-release}
 use Rattle.waiting.proofs.Rank.{bound-least, dueRank, lanesRank, due-most, rank-most, rank-falls}
 
@@ -67,22 +69,22 @@ module _ (t : Timings) (ok : Sound t) (c : ℕ) (j : ℕ) (hj : j < t .lanes) wh
       (λ e. rw e (omega (arith, whole, ok .some-green, ok .some-yellow, due-most t ok c true after j good chain hj (leb-true (readyIn t c (laneOf after j)) 1 e))))
       (λ e. rw e (omega (arith, whole, ok .some-green, ok .some-yellow, soon, leb-false (readyIn t c (laneOf after j)) 1 e)))
 
-  module _ (wish : Wish) (cycle : ℕ) (samples : Metered) (g : Group) (v : GroupGood g (t .lanes)) (w : Chain t (g .lanes)) where
+  module _ (preemption : ℕ) (wish : Wish) (cycle : ℕ) (samples : Metered) (g : Group) (v : GroupGood g (t .lanes)) (w : Chain t (g .lanes)) where
     abbrev now : ℕ
-    now = intervalOf t wish g
+    now = intervalOf t preemption wish g
 
     abbrev moved : Lanes
-    moved = lanesMoved t wish samples g
+    moved = lanesMoved t preemption wish samples g
 
     never : {k : ℕ} → k ≡ 7 → isOwn k ≡ false → ⊥
     never e o = true≢false (rw e at o)
 
-    lanes-fall : c ≤ 720 → (fromMetering wish ≡ 7 → 1 ≤ cycle) → cycle ≤ c → getD (samples .demand) j 0 ≡ 1
+    lanes-fall : c ≤ 720 → (fromMetering (steeredWish preemption wish) ≡ 7 → 1 ≤ cycle) → cycle ≤ c → getD (samples .demand) j 0 ≡ 1
         → now ≡ 7 → eqb (releasedIn t cycle (samples .demand) now moved) (j + 1) ≡ false
         → lanesRank t c j (releaseOf moved (releasedIn t cycle (samples .demand) now moved)) < groupRank t c j g
     unfolding releasedIn groupRank
     lanes-fall hc some hcycle d =
-        lanes-cases t wish samples g (v .interval)
+        lanes-cases t preemption wish samples g (v .interval)
         (λ k s. k ≡ 7 → eqb (releasedIn t cycle (samples .demand) k s) (j + 1) ≡ false
         → lanesRank t c j (releaseOf s (releasedIn t cycle (samples .demand) k s)) < groupRank t c j g)
         (λ b f _ miss. rw b
@@ -92,16 +94,16 @@ module _ (t : Timings) (ok : Sound t) (c : ℕ) (j : ℕ) (hj : j < t .lanes) wh
         (λ k _ o _ e _. absurd (never e o))
 
     -- The rank falls at a tick that ends in metering and does not release the lane.
-    pub group-falls : c ≤ 720 → (fromMetering wish ≡ 7 → 1 ≤ cycle) → cycle ≤ c → getD (samples .demand) j 0 ≡ 1
-        → movedOf t wish cycle samples g .group .interval ≡ 7 → eqb (movedOf t wish cycle samples g .released) (j + 1) ≡ false
-        → groupRank t c j (movedOf t wish cycle samples g .group) < groupRank t c j g
+    pub group-falls : c ≤ 720 → (fromMetering (steeredWish preemption wish) ≡ 7 → 1 ≤ cycle) → cycle ≤ c → getD (samples .demand) j 0 ≡ 1
+        → movedOf t preemption wish cycle samples g .group .interval ≡ 7 → eqb (movedOf t preemption wish cycle samples g .released) (j + 1) ≡ false
+        → groupRank t c j (movedOf t preemption wish cycle samples g .group) < groupRank t c j g
     unfolding movedOf movedWith groupOf groupRank
     group-falls hc some hcycle d e miss = rw (eq-eqb now 7 e) (lanes-fall hc some hcycle d e miss)
 
     lane-was-red : now ≡ 7 → eqb (releasedIn t cycle (samples .demand) now moved) (j + 1) ≡ true → (g .interval ≡ 7) × (laneOf (g .lanes) j .colour ≡ 1)
     unfolding releasedIn
     lane-was-red =
-        lanes-cases t wish samples g (v .interval)
+        lanes-cases t preemption wish samples g (v .interval)
         (λ k s. k ≡ 7 → eqb (releasedIn t cycle (samples .demand) k s) (j + 1) ≡ true → (g .interval ≡ 7) × (laneOf (g .lanes) j .colour ≡ 1))
         (λ b _ _ hit. (b, from-tick hit))
         (λ _ _ hit. absurd (from-entry hit))
@@ -116,9 +118,11 @@ module _ (t : Timings) (ok : Sound t) (c : ℕ) (j : ℕ) (hj : j < t .lanes) wh
 
         from-entry : eqb (releasedOf t cycle (samples .demand) (lanesEntered (t .lanes))) (j + 1) ≡ true → ⊥
         from-entry hit =
-            let r = released-lane t cycle (samples .demand) (lanesEntered (t .lanes)) j hit in
-            let long : t .minred ≤ 0 = rw (entered-in (t .lanes) j place hj) at (r .long) in
-            omega (arith, ok .some-red)
+            omega (
+              arith,
+              eqb-true (releasedOf t cycle (samples .demand) (lanesEntered (t .lanes))) (j + 1) hit,
+              none-on-entry t cycle (samples .demand) (ok .least) (ok .most) (omega (arith, ok .some-red)),
+            )
 
     -- A lane is released in metering alone.
     in-metering : (k : ℕ) (s : Lanes) → eqb (releasedIn t cycle (samples .demand) k s) (j + 1) ≡ true → k ≡ 7
@@ -128,14 +132,14 @@ module _ (t : Timings) (ok : Sound t) (c : ℕ) (j : ℕ) (hj : j < t .lanes) wh
         (λ e. let z : _≡_ {A = ℕ} 0 (j + 1) = eqb-true 0 (j + 1) (rw e at hit) in absurd (omega arith))
 
     -- At the tick that releases the lane its lamps show green, and before it they showed red.
-    pub shown-red : eqb (movedOf t wish cycle samples g .released) (j + 1) ≡ true → (g .interval ≡ 7) × (laneShown g (t .lanes) j ≡ 1)
+    pub shown-red : eqb (movedOf t preemption wish cycle samples g .released) (j + 1) ≡ true → (g .interval ≡ 7) × (laneShown g (t .lanes) j ≡ 1)
     unfolding movedOf movedWith laneShown colourShown
     shown-red hit =
         let p = lane-was-red (in-metering now moved hit) hit in
         (p .0, rw (lt-ltb j (t .lanes) hj, p .0, p .1))
 
-    pub shown-green : eqb (movedOf t wish cycle samples g .released) (j + 1) ≡ true
-        → laneShown (movedOf t wish cycle samples g .group) (t .lanes) j ≡ 3
+    pub shown-green : eqb (movedOf t preemption wish cycle samples g .released) (j + 1) ≡ true
+        → laneShown (movedOf t preemption wish cycle samples g .group) (t .lanes) j ≡ 3
     unfolding movedOf movedWith groupOf laneShown colourShown
     shown-green hit =
         let k = releasedIn t cycle (samples .demand) now moved in

@@ -10,6 +10,7 @@ use Rattle.lanes.specs.declared.Lane.{Lane}
 use Rattle.lanes.specs.Intervals.{lane, riseOf, laneTick}
 use Rattle.loops.proofs.Cases.{by-test}
 use Rattle.lanes.proofs.LaneLaws.{rise-min, tick-cases, tick-counter}
+use Rattle.lanes.proofs.RedLaws.{redIn, red-falls}
 use Rattle.group.proofs.RangeLaws.{LaneGood}
 
 -- The timings of a site that is not spoilt, as far as waiting goes.
@@ -23,33 +24,28 @@ pub record Sound (t : Timings) : Type 0 where
   pub some-red : 2 ≤ t .minred
   pub red : t .minred ≤ 720
 
--- Ticks, the present one included, until the lane has been red its minimum.
-unfoldable pub redIn : Timings → Lane → ℕ
-redIn t l =
-    cond (eqb (l .colour) 3) (max 1 (t .maxgreen - l .age) + t .yellow + t .minred)
-    (cond (eqb (l .colour) 2) (max 1 (t .yellow - l .age) + t .minred) (t .minred - l .age))
-
--- The same until it is ready, in demand, whatever the cycle up to c; 1 where it is ready at the present tick.
+-- Ticks, the present one included, until the lane has been red its minimum, is in demand and ready, whatever the cycle up to c; 1 where it is
+-- ready at the present tick.
 unfoldable pub readyIn : Timings → ℕ → Lane → ℕ
-readyIn t c l = max 1 (max (c - l .counter) (redIn t l))
+readyIn t c l = max 1 (max (c - l .counter) (redIn t (t .minred) l))
 
 max-parts : (a b : ℕ) → max 1 (max a b) ≤ 1 → (a ≤ 1) × (b ≤ 1)
 max-parts a b h = (omega arith, omega arith)
 
-pub due-parts : (t : Timings) (c : ℕ) (l : Lane) → readyIn t c l ≤ 1 → (c - l .counter ≤ 1) × (redIn t l ≤ 1)
+pub due-parts : (t : Timings) (c : ℕ) (l : Lane) → readyIn t c l ≤ 1 → (c - l .counter ≤ 1) × (redIn t (t .minred) l ≤ 1)
 unfolding readyIn
-due-parts t c l r = max-parts (c - l .counter) (redIn t l) r
+due-parts t c l r = max-parts (c - l .counter) (redIn t (t .minred) l) r
 
 -- A lane that is due is neither green nor yellow.
-due-green : (t : Timings) → Sound t → (l : Lane) → redIn t l ≤ 1 → eqb (l .colour) 3 ≡ true → ⊥
+due-green : (t : Timings) → Sound t → (l : Lane) → redIn t (t .minred) l ≤ 1 → eqb (l .colour) 3 ≡ true → ⊥
 unfolding redIn
 due-green t ok l r e = let y = rw e at r in omega (arith, ok .some-red)
 
-due-yellow : (t : Timings) → Sound t → (l : Lane) → redIn t l ≤ 1 → eqb (l .colour) 3 ≡ false → eqb (l .colour) 2 ≡ true → ⊥
+due-yellow : (t : Timings) → Sound t → (l : Lane) → redIn t (t .minred) l ≤ 1 → eqb (l .colour) 3 ≡ false → eqb (l .colour) 2 ≡ true → ⊥
 unfolding redIn
 due-yellow t ok l r e f = let y = rw (e, f) at r in omega (arith, ok .some-red)
 
-due-red : (t : Timings) (l : Lane) → redIn t l ≤ 1 → eqb (l .colour) 3 ≡ false → eqb (l .colour) 2 ≡ false → t .minred ≤ l .age + 1
+due-red : (t : Timings) (l : Lane) → redIn t (t .minred) l ≤ 1 → eqb (l .colour) 3 ≡ false → eqb (l .colour) 2 ≡ false → t .minred ≤ l .age + 1
 unfolding redIn
 due-red t l r e f = let y = rw (e, f) at r in omega arith
 
@@ -67,22 +63,11 @@ one-falls : (x y : ℕ) → x ≤ y - 1 → max 1 x ≤ max 1 (max 1 y - 1)
 one-falls x y h = omega arith
 
 module _ (t : Timings) (ok : Sound t) (l : Lane) (passage : ℕ) where
-  red-falls : redIn t (laneTick t l passage) ≤ redIn t l - 1
-  unfolding redIn
-  red-falls =
-      let r = rise-min (l .age) in
-      tick-cases t l passage (λ m. redIn t m ≤ redIn t l - 1)
-      (λ c. rw c (omega (arith, ok .some-yellow)))
-      (λ c h. rw c (omega (arith, r)))
-      (λ c h. rw c (omega arith))
-      (λ c h. rw c (omega (arith, r, ok .yellow)))
-      (λ n3 n2. rw (n3, n2) (omega (arith, r, ok .red)))
-
   pub ready-falls : (c : ℕ) → c ≤ 720 → readyIn t c (laneTick t l passage) ≤ max 1 (readyIn t c l - 1)
   unfolding readyIn
   ready-falls c h =
       let count : c - laneTick t l passage .counter ≤ c - l .counter - 1 = rw (tick-counter t l passage) (counter-falls c (l .counter) h) in
-      one-falls _ _ (both-fall _ _ _ _ count red-falls)
+      one-falls _ _ (both-fall _ _ _ _ count (red-falls t (t .minred) (ok .green) (ok .some-yellow) (ok .yellow) (ok .red) l passage))
 
   -- A lane that is still green had a tick left, and has one less.
   pub green-falls : laneTick t l passage .colour ≡ 3 → greenFor t (laneTick t l passage) < greenFor t l

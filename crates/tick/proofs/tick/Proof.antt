@@ -2,6 +2,7 @@
 use Rattle.tick.specs.declared.Ticked.{Ticked}
 use Rattle.tick.specs.Tick.{refusedTick, tickOf}
 use Rattle.tick.proofs.WaitingLaws.{waiting-bound}
+use Rattle.tick.proofs.PreemptionLaws.{preemption-clears}
 use borrow.Author.Tests.{ne-eqb, eq-eqb}
 use mathlib.Core.Path.{ap, sym, _∙_}
 use borrow.Author.Needs.{needs}
@@ -19,7 +20,7 @@ unfolding tickOf refusedTick
 returns c =
     let r = c .before .before in (
       rw (← r .refusal-of .ensures, ne-eqb _ _ (c .before .if1 .taken)) (c .refused .ensures),
-      ((λ z. absurd (c .before .if1 .taken (sym (ap (λ (t : Ticked). t .refusal) (c .refused .ensures)) ∙ z))), waiting-bound _),
+      ((λ z. absurd (c .before .if1 .taken (sym (ap (λ (t : Ticked). t .refusal) (c .refused .ensures)) ∙ z))), (waiting-bound _, preemption-clears _)),
     )
 
 advance-requires : tie.Need-advance-requires
@@ -30,7 +31,7 @@ unfolding tickOf
 returns-2 c =
     let r = c .before .before in (
       rw (← r .refusal-of .ensures, eq-eqb _ _ (c .before .if1 .left)) (c .advance .ensures .0),
-      ((λ _. c .advance .ensures .1), waiting-bound _),
+      ((λ _. c .advance .ensures .1), (waiting-bound _, preemption-clears _)),
     )
 
 pub tick-spec : {M : Type 1} → statement M

@@ -1,0 +1,2 @@
+pub mod LanesRed
+pub mod ClearingRank
