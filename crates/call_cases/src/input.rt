@@ -4,6 +4,7 @@
 ghost use mathlib.Core.Path.{_≡_};
 ghost use Prim.Native.Nat.{_≤_};
 ghost use lib.ListN.{length};
+ghost use Rattle.tick_row.specs.Row.{longestRow};
 use calendar::Clock;
 use group::Group;
 use lanes::Lanes;
@@ -63,13 +64,13 @@ fn six_long(op: &[u8], at: usize) -> [u32; 6]
 // Ticks.
 
 // The numbers of a row that begins at number `at`; of a shorter row those behind it too.
-fn row(op: &[u8], at: usize) -> [u16; 43]
+fn row(op: &[u8], at: usize) -> [u16; tick_row::LONGEST_ROW]
     requires { ⌜ at ≤ 200 ⌝ }
-    ensures { λ r. ⌜ 43 ≡ length r ⌝ }
+    ensures { λ r. ⌜ longestRow ≡ length r ⌝ }
 {
-    let mut row = [0u16; 43];
+    let mut row = [0u16; tick_row::LONGEST_ROW];
     let mut i: usize = 0;
-    while i < 43 {
+    while i < tick_row::LONGEST_ROW {
         row[i] = numbers::word(op, at + i);
         i += 1;
     }
@@ -104,6 +105,7 @@ pub fn later(input: Input, ticks: u16) -> Input {
         },
         lanes,
         main,
+        preemption: input.preemption,
         manual,
         centre,
     }

@@ -87,7 +87,7 @@ fn no_command() -> Command {
     }
 }
 
-// A Monday, no command.
+// A Monday, no call, no command.
 fn input_of(tenth: u32, lanes: Metered, main: Mainline) -> Input {
     Input {
         clock: Clock {
@@ -100,6 +100,7 @@ fn input_of(tenth: u32, lanes: Metered, main: Mainline) -> Input {
         },
         lanes,
         main,
+        preemption: 0,
         manual: no_command(),
         centre: no_command(),
     }

@@ -9,7 +9,7 @@ use Rattle.timings.specs.declared.Shape.{Shape}
 use Rattle.tick.specs.declared.Input.{Input}
 use Rattle.tick.specs.Checks.{inputRefusal}
 use Rattle.tick_diagnosis.specs.declared.number.Part.{Part}
-use Rattle.tick_diagnosis.specs.declared.number.Part.the-variants.{TheClock, MeteredLane, MainlineLane, Manual, Communications}
+use Rattle.tick_diagnosis.specs.declared.number.Part.the-variants.{TheClock, MeteredLane, MainlineLane, TheCalls, Manual, Communications}
 use Rattle.tick_diagnosis.specs.declared.number.Number.{Number}
 use Rattle.tick_diagnosis.specs.Numbers.{firstBad}
 use Rattle.tick_diagnosis.specs.Names.{refusalOf}
@@ -20,6 +20,7 @@ some-refusal : (part : Part) → refusalOf part ≡ 0 → ⊥
 some-refusal TheClock e = omega arith
 some-refusal (MeteredLane i) e = omega arith
 some-refusal (MainlineLane j) e = omega arith
+some-refusal TheCalls e = omega arith
 some-refusal Manual e = omega arith
 some-refusal Communications e = omega arith
 

@@ -18,14 +18,14 @@ use Rattle.calendar.specs.Clock.{tenths, clockBad}
 use Rattle.inputs.specs.declared.MeteredSample.{MeteredSample}
 use Rattle.inputs.specs.declared.LaneSample.{LaneSample}
 use Rattle.inputs.specs.declared.Command.{Command}
-use Rattle.inputs.specs.Samples.{meteredSampleOf, laneSampleOf, flags, occupancies, speeds, meteredBad, laneBad, samplesBad}
+use Rattle.inputs.specs.Samples.{meteredSampleOf, laneSampleOf, flags, occupancies, speeds, meteredBad, laneBad, samplesBad, callBad}
 use Rattle.inputs.specs.Commands.{kinds, carriesNothing, commandBad, commandsBad}
 use Rattle.tick.specs.declared.Input.{Input}
-use Rattle.tick.specs.Checks.{inputRefusal}
+use Rattle.tick.specs.Checks.{sampleBad, inputRefusal}
 use Rattle.tick_diagnosis.specs.declared.number.Part.{Part}
 use Rattle.tick_diagnosis.specs.declared.number.Part.the-variants.{Manual, Communications}
 use Rattle.tick_diagnosis.specs.declared.number.Number.{Number}
-use Rattle.tick_diagnosis.specs.Numbers.{numberOf, firstOf, firstFrom, inClock, inMetered, inMainline, modeOf, inCommand, inLanes, firstBad}
+use Rattle.tick_diagnosis.specs.Numbers.{numberOf, firstOf, firstFrom, inClock, inMetered, inMainline, inCalls, modeOf, inCommand, inLanes, firstBad}
 use Rattle.tick_diagnosis.specs.Names.{refusalOf}
 
 -- A number of a part with refusal k, out of range exactly where a test says so.
@@ -104,6 +104,10 @@ says-mainline j s =
     rw (← above (flags .high) (s .working), ← above (occupancies .high) (s .occupied), ← above (flags .high) (s .vehicles), ← above (speeds .high) (s .speed))
     (says-first (says-number _ _ _ _ refl) (says-first (says-number _ _ _ _ refl) (says-first (says-number _ _ _ _ refl) (says-number _ _ _ _ refl))))
 
+says-calls : (preemption : ℕ) → Says (inCalls preemption) 9 (callBad preemption)
+unfolding inCalls callBad
+says-calls preemption = rw (← above (flags .high) preemption) (says-number _ _ _ _ refl)
+
 -- Kind 0 has neither rate nor table, and is itself in range.
 in-nothing : (r t : Bool) → (not r || not t) ≡ not (r && t)
 in-nothing true t = refl
@@ -127,18 +131,21 @@ says-command part e c =
     rw (← in-command (c .kind) (c .rate) (c .table)) (says-first (says-number _ _ _ _ e) (says-first (says-number _ _ _ _ e) (says-number _ _ _ _ e)))
 
 pub told-is : (h : Shape) (i : Input) → told (firstBad h i) ≡ inputRefusal h i
-unfolding firstBad inLanes inputRefusal samplesBad commandsBad
+unfolding firstBad inLanes inputRefusal sampleBad samplesBad commandsBad
 told-is h i =
     let centre = inCommand Communications (i .centre) in
     let commands = firstOf (inCommand Manual (i .manual)) centre in
-    let main = firstFrom (λ k. inMainline k (laneSampleOf (i .main) k)) 0 (h .mainline) commands in
+    let calls = firstOf (inCalls (i .preemption)) commands in
+    let main = firstFrom (λ k. inMainline k (laneSampleOf (i .main) k)) 0 (h .mainline) calls in
     let lanes = firstFrom (λ k. inMetered k (meteredSampleOf (i .lanes) k)) 0 (h .lanes) main in
     rw (
       told-first lanes (says-clock (i .clock)),
       told-from _ _ 9 main (λ k. says-metered k (meteredSampleOf (i .lanes) k)) 0 (h .lanes),
-      told-from _ _ 9 commands (λ k. says-mainline k (laneSampleOf (i .main) k)) 0 (h .mainline),
+      told-from _ _ 9 calls (λ k. says-mainline k (laneSampleOf (i .main) k)) 0 (h .mainline),
+      told-first commands (says-calls (i .preemption)),
       told-first centre (says-command Manual refl (i .manual)),
       told-one (says-command Communications refl (i .centre)),
+      cond-or _ _ 9 _,
       cond-or _ _ 9 _,
       cond-or _ _ 10 0,
     )

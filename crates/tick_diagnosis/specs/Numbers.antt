@@ -15,7 +15,7 @@ use Rattle.inputs.specs.Samples.{meteredSampleOf, laneSampleOf, flags, occupanc
 use Rattle.inputs.specs.Commands.{kinds}
 use Rattle.tick.specs.declared.Input.{Input}
 use Rattle.tick_diagnosis.specs.declared.number.Part.{Part}
-use Rattle.tick_diagnosis.specs.declared.number.Part.the-variants.{TheClock, MeteredLane, MainlineLane, Manual, Communications}
+use Rattle.tick_diagnosis.specs.declared.number.Part.the-variants.{TheClock, MeteredLane, MainlineLane, TheCalls, Manual, Communications}
 use Rattle.tick_diagnosis.specs.declared.number.Number.{Number}
 
 -- Number x, in this column of its part, and whether it is out of its range.
@@ -51,6 +51,10 @@ inMainline j s =
     (firstOf (numberOf (MainlineLane j) 2 (s .vehicles) flags)
     (numberOf (MainlineLane j) 3 (s .speed) speeds)))
 
+-- The calls: preemption.
+unfoldable pub inCalls : ℕ → Number
+inCalls preemption = numberOf TheCalls 0 preemption flags
+
 -- A command's kinds 1 to 4 are an entry's modes 0 to 3. Kind 0 has neither rate nor table, as mode 0 has none.
 unfoldable pub modeOf : ℕ → ℕ
 modeOf kind = kind - 1
@@ -70,4 +74,7 @@ inLanes h i rest =
 
 -- The first that is out of range of all the input's numbers; where none is, the last of them.
 unfoldable pub firstBad : Shape → Input → Number
-firstBad h i = firstOf (inClock (i .clock)) (inLanes h i (firstOf (inCommand Manual (i .manual)) (inCommand Communications (i .centre))))
+firstBad h i =
+    firstOf (inClock (i .clock))
+    (inLanes h i
+    (firstOf (inCalls (i .preemption)) (firstOf (inCommand Manual (i .manual)) (inCommand Communications (i .centre)))))

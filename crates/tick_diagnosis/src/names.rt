@@ -11,6 +11,7 @@ pub fn refusal_of(part: Part) -> u8
         Part::TheClock => calendar::BAD_CLOCK,
         Part::MeteredLane(_) => inputs::BAD_SAMPLE,
         Part::MainlineLane(_) => inputs::BAD_SAMPLE,
+        Part::TheCalls => inputs::BAD_SAMPLE,
         Part::Manual => inputs::BAD_COMMAND,
         Part::Communications => inputs::BAD_COMMAND,
     }
@@ -33,6 +34,7 @@ pub fn put_part(out: &mut [u8], at: usize, part: Part) -> usize
         Part::TheClock => at,
         Part::MeteredLane(i) => put_lane(out, at, b"metered lane", i),
         Part::MainlineLane(j) => put_lane(out, at, b"mainline lane", j),
+        Part::TheCalls => at,
         Part::Manual => text::put_bytes(out, at, b"manual, "),
         Part::Communications => text::put_bytes(out, at, b"communications, "),
     }
@@ -51,6 +53,7 @@ pub fn put_name(out: &mut [u8], at: usize, part: Part, column: usize) -> usize
             b"working,occupied,vehicles,speed",
             column,
         ),
+        Part::TheCalls => text::put_item(out, at, b"preemption", column),
         Part::Manual => text::put_item(out, at, b"kind,rate,table", column),
         Part::Communications => text::put_item(out, at, b"kind,rate,table", column),
     }

@@ -3,7 +3,7 @@ ghost use mathlib.Core.Path.{_≡_};
 ghost use mathlib.Core.Bool.{not};
 ghost use Rattle.numbers.specs.Within.{between, isWithin};
 ghost use Rattle.inputs.specs.Samples.{meteredSampleOf, laneSampleOf};
-ghost use Rattle.tick_diagnosis.specs.Numbers.{numberOf, firstOf, firstFrom, inClock, inMetered, inMainline, modeOf, inCommand, inLanes, firstBad};
+ghost use Rattle.tick_diagnosis.specs.Numbers.{numberOf, firstOf, firstFrom, inClock, inMetered, inMainline, inCalls, modeOf, inCommand, inLanes, firstBad};
 use calendar::Clock;
 use inputs::Command;
 use inputs::LaneSample;
@@ -19,6 +19,7 @@ pub enum Part {
     TheClock,
     MeteredLane(u16),
     MainlineLane(u16),
+    TheCalls,
     Manual,
     Communications,
 }
@@ -124,6 +125,12 @@ fn in_mainline(j: u16, s: LaneSample) -> Number
     first(working, first(occupied, first(vehicles, speed)))
 }
 
+fn in_calls(preemption: u16) -> Number
+    ensures { λ r. ⌜ r ≡ inCalls preemption ⌝ }
+{
+    number_of(Part::TheCalls, 0, preemption, FLAGS)
+}
+
 // An entry's mode of a command's kind.
 fn mode_of(kind: u16) -> u16
     ensures { λ r. ⌜ r ≡ modeOf kind ⌝ }
@@ -191,5 +198,6 @@ pub fn first_bad(shape: Shape, input: Input) -> Number
         in_command(Part::Manual, manual),
         in_command(Part::Communications, centre),
     );
-    first(in_clock(clock), in_lanes(shape, input, commands))
+    let calls = first(in_calls(input.preemption), commands);
+    first(in_clock(clock), in_lanes(shape, input, calls))
 }

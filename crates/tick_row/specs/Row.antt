@@ -1,6 +1,6 @@
 -- A tick as one row of numbers, in the order of document 02's tick record: year, month, day and the two halves of the tenth; demand and
--- passage of each metered lane; working, occupied, vehicles and speed of each mainline lane; kind, rate and table of the manual and then of
--- the communications command. Replay's line and the test cases are read by this.
+-- passage of each metered lane; working, occupied, vehicles and speed of each mainline lane; preemption; kind, rate and table of the manual
+-- and then of the communications command. Replay's line and the test cases are read by this.
 use Prim.Native.Nat.{ℕ, _+_, _*_}
 use mathlib.Core.Bool.{cond}
 use mathlib.Core.List.{List, [], _∷_}
@@ -53,19 +53,23 @@ mainlineOf row m p = record {
 unfoldable pub commandOf : List ℕ → ℕ → Command
 commandOf row p = record { kind = getD row p 0; rate = getD row (p + 1) 0; table = getD row (p + 2) 0 }
 
--- Where the mainline lanes' numbers and the commands' begin, and how many numbers there are, of n metered and m mainline lanes.
+-- Where the mainline lanes' numbers, the calls and the commands' numbers begin, and how many numbers there are, of n metered and m mainline
+-- lanes.
 unfoldable pub mainlineAt : ℕ → ℕ
 mainlineAt n = 5 + 2 * n
 
+unfoldable pub callsAt : ℕ → ℕ → ℕ
+callsAt n m = mainlineAt n + 4 * m
+
 unfoldable pub commandsAt : ℕ → ℕ → ℕ
-commandsAt n m = mainlineAt n + 4 * m
+commandsAt n m = callsAt n m + 1
 
 unfoldable pub rowSize : ℕ → ℕ → ℕ
 rowSize n m = commandsAt n m + 6
 
 -- The longest row, that of four metered and six mainline lanes: law `longest-row`.
 abbrev pub longestRow : ℕ
-longestRow = 43
+longestRow = 44
 
 -- The tick of a row; "manual first".
 unfoldable pub inputOf : List ℕ → ℕ → ℕ → Input
@@ -73,6 +77,7 @@ inputOf row n m = record {
   clock = clockOf row;
   lanes = meteredOf row n;
   main = mainlineOf row m (mainlineAt n);
+  preemption = getD row (callsAt n m) 0;
   manual = commandOf row (commandsAt n m);
   centre = commandOf row (commandsAt n m + 3);
 }

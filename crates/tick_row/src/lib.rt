@@ -1,7 +1,7 @@
-// A tick as one row of numbers: clock, metered lanes, mainline lanes, commands.
+// A tick as one row of numbers: clock, metered lanes, mainline lanes, calls, commands.
 ghost use mathlib.Core.Path.{_≡_};
 ghost use Prim.Native.Nat.{_≤_};
-ghost use Rattle.tick_row.specs.Row.{longOf, clockOf, ofLane, ofMetered, meteredOf, ofMainline, mainlineOf, commandOf, mainlineAt, commandsAt, inputOf, rowSize};
+ghost use Rattle.tick_row.specs.Row.{longOf, clockOf, ofLane, ofMetered, meteredOf, ofMainline, mainlineOf, commandOf, mainlineAt, callsAt, commandsAt, inputOf, rowSize};
 use calendar::Clock;
 use calendar::Date;
 use inputs::Command;
@@ -10,15 +10,17 @@ use inputs::Metered;
 use tick::Input;
 
 // The most numbers that a row has: those of four metered and six mainline lanes.
-pub const LONGEST_ROW: usize = 43;
+pub const LONGEST_ROW: usize = 44;
 
 // Where the metered lanes' numbers begin, behind the clock's.
 const METERED: usize = 5;
 
-// How many numbers a metered lane, a mainline lane and a command have.
+// How many numbers a metered lane, a mainline lane, the calls and a command have.
 const METERED_WIDTH: usize = 2;
 
 const MAINLINE_WIDTH: usize = 4;
+
+const CALLS_WIDTH: usize = 1;
 
 const COMMAND_WIDTH: usize = 3;
 
@@ -29,11 +31,18 @@ fn mainline_at(n: u16) -> usize
     METERED + METERED_WIDTH * (n as usize)
 }
 
+// Where the calls begin.
+fn calls_at(n: u16, m: u16) -> usize
+    ensures { λ r. ⌜ r ≡ callsAt n m ⌝ }
+{
+    mainline_at(n) + MAINLINE_WIDTH * (m as usize)
+}
+
 // Where the commands' numbers begin.
 fn commands_at(n: u16, m: u16) -> usize
     ensures { λ r. ⌜ r ≡ commandsAt n m ⌝ }
 {
-    mainline_at(n) + MAINLINE_WIDTH * (m as usize)
+    calls_at(n, m) + CALLS_WIDTH
 }
 
 // How many numbers the row of n metered and m mainline lanes has.
@@ -138,11 +147,13 @@ pub fn input_of(row: &[u16], n: u16, m: u16) -> Input
     ensures { λ r. ⌜ r ≡ inputOf (now (row .entry)) n m ⌝ }
 {
     let main = mainline_at(n);
+    let calls = calls_at(n, m);
     let commands = commands_at(n, m);
     Input {
         clock: clock_of(row),
         lanes: metered_of(row, n),
         main: mainline_of(row, m, main),
+        preemption: numbers::number_at(row, calls),
         manual: command_of(row, commands),
         centre: command_of(row, commands + COMMAND_WIDTH),
     }

@@ -1,5 +1,5 @@
 -- Each part is the definition's.
-use Rattle.tick_row.specs.Row.{mainlineAt, commandsAt, inputOf}
+use Rattle.tick_row.specs.Row.{mainlineAt, callsAt, commandsAt, inputOf}
 use native.Mathlib.Omega.{arith}
 use borrow.Author.Needs.{needs}
 use Rattle.tick_row.proofs.input_of.Statement.{statement}
@@ -7,6 +7,9 @@ use Rattle.tick_row.proofs.input_of.Tie as tie
 
 mainline-at-requires : tie.Need-mainline-at-requires
 mainline-at-requires c κs = search needs
+
+calls-at-requires : tie.Need-calls-at-requires
+calls-at-requires c κs = search needs
 
 commands-at-requires : tie.Need-commands-at-requires
 commands-at-requires c κs = search needs
@@ -19,33 +22,38 @@ metered-of-requires c κs = search needs
 
 mainline-of-requires : tie.Need-mainline-of-requires
 unfolding mainlineAt
-mainline-of-requires c κs = omega (arith, c .before .before .before .mainline-at .ensures)
+mainline-of-requires c κs = omega (arith, c .before .before .before .before .mainline-at .ensures)
+
+number-at-requires : tie.Need-number-at-requires
+number-at-requires c κs = search needs
 
 command-of-requires : tie.Need-command-of-requires
-unfolding mainlineAt commandsAt
-command-of-requires c κs = omega (arith, c .before .before .before .commands-at .ensures)
+unfolding mainlineAt callsAt commandsAt
+command-of-requires c κs = omega (arith, c .before .before .before .before .commands-at .ensures)
 
 add-command-of : tie.Need-add-command-of
-unfolding mainlineAt commandsAt
-add-command-of c = omega (arith, c .before .before .before .before .commands-at .ensures)
+unfolding mainlineAt callsAt commandsAt
+add-command-of c = omega (arith, c .before .before .before .before .before .commands-at .ensures)
 
 command-of-requires-2 : tie.Need-command-of-requires-2
-unfolding mainlineAt commandsAt
-command-of-requires-2 c κs = omega (arith, c .before .before .before .before .commands-at .ensures)
+unfolding mainlineAt callsAt commandsAt
+command-of-requires-2 c κs = omega (arith, c .before .before .before .before .before .commands-at .ensures)
 
 returns : tie.Need-returns
 unfolding inputOf
-returns c = simp (c .command-of2 .ensures, c .before .command-of .ensures, c .before .before .mainline-of .ensures, c .before .before .before .metered-of .ensures, c .before .before .before .before .clock-of .ensures, c .before .before .before .before .before .commands-at .ensures, c .before .before .before .before .before .before .mainline-at .ensures)
+returns c = simp (c .command-of2 .ensures, c .before .command-of .ensures, c .before .before .number-at .ensures, c .before .before .before .mainline-of .ensures, c .before .before .before .before .metered-of .ensures, c .before .before .before .before .before .clock-of .ensures, c .before .before .before .before .before .before .commands-at .ensures, c .before .before .before .before .before .before .before .calls-at .ensures, c .before .before .before .before .before .before .before .before .mainline-at .ensures)
 
 pub input-of-spec : {M : Type 1} → statement M
 input-of-spec =
     tie.close
     (tie.spec
     mainline-at-requires
+    calls-at-requires
     commands-at-requires
     clock-of-requires
     metered-of-requires
     mainline-of-requires
+    number-at-requires
     command-of-requires
     add-command-of
     command-of-requires-2

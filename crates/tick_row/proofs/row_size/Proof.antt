@@ -1,5 +1,5 @@
 -- The sum is the definition's.
-use Rattle.tick_row.specs.Row.{mainlineAt, commandsAt, rowSize}
+use Rattle.tick_row.specs.Row.{mainlineAt, callsAt, commandsAt, rowSize}
 use native.Mathlib.Omega.{arith}
 use borrow.Author.Needs.{needs}
 use Rattle.tick_row.proofs.row_size.Statement.{statement}
@@ -12,7 +12,7 @@ mul-result : tie.Need-mul-result
 mul-result c = search needs
 
 add-result : tie.Need-add-result
-unfolding mainlineAt commandsAt
+unfolding mainlineAt callsAt commandsAt
 add-result c = omega (arith, c .commands-at .ensures)
 
 returns : tie.Need-returns

@@ -1,16 +1,17 @@
--- The row keeps its 43 numbers.
+-- The row keeps as many numbers as the longest has.
 use Prim.Native.Nat.{_-_}
 use mathlib.Core.Path.{_≡_}
 use lib.ListN.{length}
+use Rattle.tick_row.specs.Row.{longestRow}
 use borrow.Author.Needs.{needs}
 use Rattle.call_cases.proofs.input.row.Statement.{statement}
 use Rattle.call_cases.proofs.input.row.Tie as tie
 
 abbrev Inv-loop : tie.InvT-loop
-Inv-loop op at row₀ i₀ row i = 43 ≡ length row
+Inv-loop op at row₀ i₀ row i = longestRow ≡ length row
 
 abbrev μ-loop : tie.MeasureT-loop
-μ-loop op at row₀ i₀ row i = 43 - i
+μ-loop op at row₀ i₀ row i = longestRow - i
 
 loop-holds : tie.Need-loop-holds Inv-loop μ-loop
 loop-holds c = search needs

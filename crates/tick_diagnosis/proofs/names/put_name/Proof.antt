@@ -48,6 +48,15 @@ slice-aggregate-put-item-5 c = search needs
 put-item-requires-5 : tie.Need-put-item-requires-5
 put-item-requires-5 c κs = search needs
 
+enum-told-6 : tie.Need-enum-told-6
+enum-told-6 c = search needs
+
+slice-aggregate-put-item-6 : tie.Need-slice-aggregate-put-item-6
+slice-aggregate-put-item-6 c = search needs
+
+put-item-requires-6 : tie.Need-put-item-requires-6
+put-item-requires-6 c κs = search needs
+
 same-length : tie.Need-same-length
 same-length c = search needs
 
@@ -78,6 +87,12 @@ same-length-5 c = search needs
 returns-5 : tie.Need-returns-5
 returns-5 c = let p = c .before .before in rw (p .before .before .before .enum-told5 .given .1) (p .put-item5 .ensures)
 
+same-length-6 : tie.Need-same-length-6
+same-length-6 c = search needs
+
+returns-6 : tie.Need-returns-6
+returns-6 c = let p = c .before .before in rw (p .before .before .before .enum-told6 .given .1) (p .put-item6 .ensures)
+
 pub put-name-spec : {M : Type 1} → statement M
 put-name-spec =
     tie.close
@@ -97,6 +112,9 @@ put-name-spec =
     enum-told-5
     slice-aggregate-put-item-5
     put-item-requires-5
+    enum-told-6
+    slice-aggregate-put-item-6
+    put-item-requires-6
     same-length
     returns
     same-length-2
@@ -106,4 +124,6 @@ put-name-spec =
     same-length-4
     returns-4
     same-length-5
-    returns-5)
+    returns-5
+    same-length-6
+    returns-6)

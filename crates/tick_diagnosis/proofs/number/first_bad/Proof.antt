@@ -13,14 +13,20 @@ in-command-requires-2 c κs = search needs
 first-requires : tie.Need-first-requires
 first-requires c κs = search needs
 
+in-calls-requires : tie.Need-in-calls-requires
+in-calls-requires c κs = search needs
+
+first-requires-2 : tie.Need-first-requires-2
+first-requires-2 c κs = search needs
+
 in-clock-requires : tie.Need-in-clock-requires
 in-clock-requires c κs = search needs
 
 in-lanes-requires : tie.Need-in-lanes-requires
 in-lanes-requires c κs = search needs
 
-first-requires-2 : tie.Need-first-requires-2
-first-requires-2 c κs = search needs
+first-requires-3 : tie.Need-first-requires-3
+first-requires-3 c κs = search needs
 
 returns : tie.Need-returns
 unfolding firstBad
@@ -33,7 +39,9 @@ first-bad-spec =
     in-command-requires
     in-command-requires-2
     first-requires
+    in-calls-requires
+    first-requires-2
     in-clock-requires
     in-lanes-requires
-    first-requires-2
+    first-requires-3
     returns)

@@ -1,0 +1,15 @@
+-- The call is that of the definition.
+use Rattle.tick_diagnosis.specs.Numbers.{inCalls}
+use borrow.Author.Needs.{needs}
+use Rattle.tick_diagnosis.proofs.number.in_calls.Statement.{statement}
+use Rattle.tick_diagnosis.proofs.number.in_calls.Tie as tie
+
+number-of-requires : tie.Need-number-of-requires
+number-of-requires c κs = search needs
+
+returns : tie.Need-returns
+unfolding inCalls
+returns c = cc
+
+pub in-calls-spec : {M : Type 1} → statement M
+in-calls-spec = tie.close (tie.spec number-of-requires returns)
