@@ -29,6 +29,8 @@ mod lanes;
 mod output;
 mod periods;
 mod poll;
+mod preemption;
+mod preemption_cases;
 mod random;
 mod random_cases;
 mod random_replay;
