@@ -8,7 +8,7 @@ use crate::random::Random;
 use crate::site::{bytes, Site, UNUSED};
 use crate::tick::{Input, KeptLane, State};
 use crate::tick_cases::{
-    distinct, fixed, fresh, in_demand, short_timings, with_timings, DARK, DECIDE, GREEN, NONE, POLL, RESPONSIVE,
+    counted, distinct, fixed, fresh, in_demand, short_timings, with_timings, DARK, DECIDE, GREEN, NONE, POLL, RESPONSIVE,
 };
 use crate::wanted::Command;
 
@@ -176,7 +176,8 @@ fn refused_within() -> Vec<u8> {
     run(&ops)
 }
 
-/// Who rules is said as ever, and a call goes before each: manual and communications commands of each kind, and the plan.
+/// Who rules and what is wanted is said as ever, and a call goes before each: manual and communications commands of each kind, the plan,
+/// and a level that the last period meets.
 fn commands_under_call() -> Vec<u8> {
     let mut site = distinct();
     site.entries = vec![[127, 0, 2, 600, 0]];
@@ -187,7 +188,8 @@ fn commands_under_call() -> Vec<u8> {
         for commands in [[command, NONE], [NONE, command], [command, DARK]] {
             for (interval, preemption) in [(2, 1), (7, 1), (2, 0)] {
                 let input = Input { commands, preemption, ..in_demand(NONE) };
-                ops.extend([Op::State(fresh(3, interval, 700)), Op::Ticks(1, input)]);
+                let state = State { periods: counted().periods, ..fresh(3, interval, 700) };
+                ops.extend([Op::State(state), Op::Ticks(1, input)]);
             }
         }
     }

@@ -1,4 +1,5 @@
-//! The state and one tick of document 01, with the preemption of document 02, A1: its checks, then counts, what is wanted, group interval, lane intervals, release.
+//! The state and one tick of document 01, with the preemption of document 02, A1: its checks, then counts, what is wanted, group interval,
+//! lane intervals, release.
 
 use crate::calendar::{clock_ok, Clock};
 use crate::group::{Group, Indications, Interval, Wanted, OLDEST};
