@@ -1,4 +1,4 @@
-//! 'Group intervals' of document 01 with the preemption of document 02, A1, and the release of 'Lanes in metering'.
+//! 'Group intervals' of document 01 with the preemption of document 02, and the release of 'Lanes in metering'.
 
 use crate::lanes::{risen, Colour, Lane, LONGEST};
 use crate::timings::Timings;

@@ -3,13 +3,13 @@
 
 use crate::call_run::{from_power_up, timing, Op};
 use crate::cases;
-use crate::preemption_cases::aimed;
+use crate::preemption_cases::{aimed, Calls};
 use crate::random::Random;
 use crate::site::{bytes, Site, TIMINGS, UNUSED};
 use crate::tick::{Input, State};
 use crate::tick_cases::{
     command, damage_input, fixed, jump, quiet, random_run, samples, setting, short_timings, strange_state,
-    strange_states, Calls, Setting,
+    strange_states, Setting,
 };
 use crate::wanted::lanes;
 

@@ -2,6 +2,7 @@
 //! are damaged at times.
 
 use crate::periods::halves;
+use crate::preemption_cases::Calls;
 use crate::random::Random;
 use crate::random_cases::{any_setting, damaged_file, sound_input};
 use crate::replay::{self, Replayed};
@@ -9,7 +10,7 @@ use crate::row;
 use crate::site::bytes;
 use crate::tally::Tally;
 use crate::tick::Input;
-use crate::tick_cases::{command, damage_input, jump, samples, Calls, Setting};
+use crate::tick_cases::{command, damage_input, jump, samples, Setting};
 use crate::wanted::lanes;
 
 /// Runs of each kind in one seed.

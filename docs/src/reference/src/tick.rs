@@ -1,4 +1,4 @@
-//! The state and one tick of document 01, with the preemption of document 02, A1: its checks, then counts, what is wanted, group interval,
+//! The state and one tick of document 01, with the preemption of document 02: its checks, then counts, what is wanted, group interval,
 //! lane intervals, release.
 
 use crate::calendar::{clock_ok, Clock};

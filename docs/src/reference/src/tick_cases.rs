@@ -6,6 +6,7 @@ use crate::call_run::{from_power_up, timing, Op};
 use crate::cases;
 use crate::files::site_a;
 use crate::periods::{Counts, Sample};
+use crate::preemption_cases::Calls;
 use crate::random::Random;
 use crate::site::{bytes, Site, TIMINGS, UNUSED};
 use crate::tick::{Input, KeptLane, State};
@@ -854,45 +855,6 @@ pub fn samples(r: &mut Random, s: &Setting, count: u16, input: &mut Input) {
     input.mainline = [Sample::default(); 6].map(|_| sample(r, s, count));
     if m < 6 && r.percent(5) {
         input.mainline[5] = Sample { working: 2, occupied: 101, vehicles: 2, speed: 251 };
-    }
-}
-
-/// The preemption calls of a random run: in every other run they come, last for a while and go.
-pub struct Calls {
-    /// Percent.
-    coming: u64,
-    maximum_green: u16,
-    /// Ticks of the present call that are still to come.
-    left: u16,
-}
-
-impl Calls {
-    /// Where they come, one comes with this chance at each step.
-    pub fn new(r: &mut Random, s: &Setting, coming: u64) -> Calls {
-        Calls { coming: r.pick(&[0, coming]), maximum_green: 600 * s.site.timings[12], left: 0 }
-    }
-
-    /// A tick, a moment, up to some hundred ticks, or longer than a pre-metering green may last.
-    fn length(&self, r: &mut Random) -> u16 {
-        match r.from(0, 9) {
-            0 | 1 => 1,
-            2..=4 => r.number(2, 30),
-            5..=8 => r.number(31, 400),
-            _ => self.maximum_green + r.number(1, 300),
-        }
-    }
-
-    /// The sample of the next ticks, and for how many of so many it stands.
-    pub fn next(&mut self, r: &mut Random, count: u16) -> (u16, u16) {
-        if self.left == 0 && r.percent(self.coming) {
-            self.left = self.length(r);
-        }
-        if self.left == 0 {
-            return (0, count);
-        }
-        let count = count.min(self.left);
-        self.left -= count;
-        (1, count)
     }
 }
 
