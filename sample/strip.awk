@@ -1,5 +1,5 @@
 # A replay for the eye: `awk -f strip.awk TICKS REPLAY`. The lamps of each lane over time, a letter for half a second (. dark, R red, Y yellow,
-# G green), a line where they stay as they are, and between them what changed.
+# G green), a line where they stay as they are, and between them what changed; also where a preemption call begins and ends.
 function clock(tenth) {
     return sprintf("%02d:%02d:%04.1f", tenth / 36000, tenth / 600 % 60, tenth % 600 / 10)
 }
@@ -34,9 +34,15 @@ BEGIN {
     split(". dark R red Y yellow G green", pairs, " ")
     for (k = 1; k < 8; k += 2) colour[pairs[k]] = pairs[k + 1]
     wish = interval = entry = ""
+    calling = 0
 }
 
-FNR == NR { tenth[FNR] = $4; next }
+# preemption stands before the two commands of three words each
+FNR == NR {
+    tenth[FNR] = $4
+    preemption[FNR] = $(NF - 6)
+    next
+}
 
 FNR == 1 { next }
 
@@ -52,7 +58,9 @@ $1 == "refused" || $1 == "line" { print; exit }
     lanes = length($5)
     if ($9 != entry) say("plan entry " $9 " in force (" $8 ")")
     if ($12 " " $13 != wish) say("wanted: " ($12 == "meter" ? "metering at " $13 ", a green every " $14 / 10 " s" : $12) ($11 > 0 ? ", by level " $11 : ""))
+    if (preemption[$1] != calling) say(preemption[$1] == 1 ? "preemption: a fire truck calls" : "preemption ends")
     if ($3 != interval) say("interval " $3 ", " names[$3 + 1])
+    calling = preemption[$1]
     entry = $9
     wish = $12 " " $13
     interval = $3

@@ -1,8 +1,14 @@
 # The ticks of the sample, one line each as `replay` reads them: Monday 5 November 2018, from 05:29:00 and from 19:29:00. Traffic on the
-# mainline is at LOS C both times: the plan meters it at 05:30 and no longer at 19:30. A small generator varies it, so that every run gives the same lines.
+# mainline is at LOS C both times: the plan meters it at 05:30 and no longer at 19:30. At 05:31:10 a fire truck calls, for 25 s. A small
+# generator varies the traffic, so that every run gives the same lines.
 function chance(k) {
     seed = (seed * 421 + 1663) % 7875
     return seed % k == 0
+}
+
+# Preemption.
+function fire_truck(tenth) {
+    return tenth >= truck && tenth < truck + 250 ? 1 : 0
 }
 
 # gap: ticks between two vehicles of a mainline lane.
@@ -18,12 +24,13 @@ function minutes(first, count, gap,    k, lane, line) {
             until[lane]--
             line = line " 1 " (until[lane] < 2 ? 95 : 0) " " (until[lane] == 0 ? "1 " 88 + 4 * lane : "0 0")
         }
-        print line " 0 0 0 0 0 0"
+        print line " " fire_truck(first + k) " 0 0 0 0 0 0"
     }
 }
 
 BEGIN {
     seed = 51
+    truck = ((5 * 60 + 31) * 60 + 10) * 10
     minutes((5 * 60 + 29) * 600, 2100, 26)
     minutes((19 * 60 + 29) * 600, 2100, 27)
 }

@@ -6,12 +6,13 @@
 //! 3 a number of the site record set to any value: its section from 0, its place from 1 or 0 for the count, the value;
 //! 4 the site record of the file again; 5 power-up;
 //! 6 poll into a buffer of so many bytes, or of `ROOM` where that is less;
-//! 7 decide: a row of no lanes; 8 write into such a buffer.
+//! 7 decide: a row of no lanes, whose preemption is not looked at; 8 write into such a buffer.
 //! An unknown or a cut operation ends the case.
 
 use crate::calendar::Clock;
 use crate::output::{Outcome, ROOM};
 use crate::periods::Counts;
+use crate::preemption::Watch;
 use crate::record::Record;
 use crate::row;
 use crate::site::{self, Site};
@@ -175,6 +176,9 @@ struct Run<'a> {
     record: Record,
     site: Option<Site>,
     state: State,
+    /// The site of the last power-up, while every tick accepted since is at that site, and no state came from elsewhere.
+    powered: Option<Site>,
+    watch: Watch,
     out: String,
     tally: &'a mut Tally,
 }
@@ -188,12 +192,18 @@ impl Run<'_> {
         let (refusal, state) = tick::power_up(self.site.as_ref());
         self.tally.refused(refusal);
         self.state = state;
+        self.powered = self.site.clone();
+        self.watch.end_call();
         writeln!(self.out, "power {refusal}").unwrap();
         self.print_state();
     }
 
     fn ticks(&mut self, count: u16, mut input: Input) {
         self.tally.count("ticks", count as u64);
+        // at a spoilt site no tick is accepted
+        if self.site.is_some() && self.site != self.powered {
+            self.powered = None;
+        }
         let mut before = String::new();
         for number in 1..=count {
             let answer = tick::tick(self.site.as_ref(), &self.state, &input);
@@ -203,6 +213,7 @@ impl Run<'_> {
             self.tally.count("ticks accepted", (answer.refusal == 0) as u64);
             self.tally.count("lanes released", (answer.released != 0) as u64);
             self.state = answer.state;
+            self.watch_call(answer.refusal, input.preemption);
             let line = tick_line(&answer);
             if line != before || answer.released != 0 {
                 writeln!(self.out, "{number} {line}").unwrap();
@@ -213,10 +224,21 @@ impl Run<'_> {
         self.print_state();
     }
 
+    fn watch_call(&mut self, refusal: u8, preemption: u16) {
+        if refusal != 0 {
+            return;
+        }
+        self.tally.count("ticks accepted under preemption", preemption as u64);
+        if let Some(site) = &self.powered {
+            self.watch.tick(site, preemption, self.state.interval);
+        }
+    }
+
     fn replace_state(&mut self, state: State) {
         let spoilt = state_spoilt(&self.given, &state);
         self.tally.count(if spoilt { "states spoilt" } else { "states in range" }, 1);
         self.state = state;
+        self.powered = None;
     }
 
     fn damage(&mut self, section: u16, place: u16, value: u16) {
@@ -297,6 +319,8 @@ pub fn answer(case: &[u8], tally: &mut Tally) -> String {
         site: Some(given.clone()),
         given,
         state: State::default(),
+        powered: None,
+        watch: Watch::default(),
         out: String::new(),
         tally,
     };
@@ -304,5 +328,6 @@ pub fn answer(case: &[u8], tally: &mut Tally) -> String {
     while let Some(op) = words.op() {
         run.op(op);
     }
+    run.watch.count(run.tally);
     run.out
 }

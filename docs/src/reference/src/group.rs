@@ -1,4 +1,4 @@
-//! 'Group intervals' of document 01 and the release of 'Lanes in metering'.
+//! 'Group intervals' of document 01 with the preemption of document 02, and the release of 'Lanes in metering'.
 
 use crate::lanes::{risen, Colour, Lane, LONGEST};
 use crate::timings::Timings;
@@ -76,6 +76,8 @@ pub struct Group {
 /// What one tick brings to the group, behind its checks.
 pub struct Wanted {
     pub wish: Wish,
+    /// A preemption call is on.
+    pub preemption: bool,
     /// Of a wish to meter; no other has one.
     pub cycle: Option<u16>,
     /// Of each lane.
@@ -99,7 +101,7 @@ impl Group {
 
     /// One tick: group interval, lane intervals, release. Gives the lane released, from 1.
     pub fn tick(&mut self, t: &Timings, w: &Wanted) -> Option<usize> {
-        let entered = self.change_interval(t, w.wish);
+        let entered = self.change_interval(t, w);
         if entered == Some(Metering) {
             // the numbers rise from the next tick on
             self.reset_lanes(t.lanes);
@@ -112,36 +114,54 @@ impl Group {
     // Group intervals.
 
     /// The age rises, then at most one change; gives the interval entered.
-    fn change_interval(&mut self, t: &Timings, wish: Wish) -> Option<Interval> {
+    fn change_interval(&mut self, t: &Timings, w: &Wanted) -> Option<Interval> {
         if self.age < OLDEST {
             self.age += 1;
         }
-        let next = self.next_interval(t, wish)?;
+        let next = self.next_interval(t, w)?;
         self.interval = next;
         self.age = 0;
         Some(next)
     }
 
-    fn next_interval(&self, t: &Timings, wish: Wish) -> Option<Interval> {
-        let metering = matches!(wish, Wish::Metering(_));
-        let after = |time: u16, next: Interval| (self.age >= time).then_some(next);
+    /// The interval that follows at this tick, if one does. Where it is asked what is wanted, a call goes before: dark and pre-metering
+    /// green are held, and metering closes.
+    fn next_interval(&self, t: &Timings, w: &Wanted) -> Option<Interval> {
+        match (self.interval, w.preemption) {
+            (PreMeteringDark | PreMeteringGreen, true) => None,
+            (Metering, true) => Some(Closing),
+            (PreMeteringDark | PreMeteringGreen | Metering, false) => self.next_as_wanted(t, w.wish),
+            _ => self.next_in_time(t),
+        }
+    }
+
+    fn up(&self, time: u16, next: Interval) -> Option<Interval> {
+        (self.age >= time).then_some(next)
+    }
+
+    fn next_as_wanted(&self, t: &Timings, wish: Wish) -> Option<Interval> {
+        match (self.interval, wish) {
+            (PreMeteringDark, Wish::Green | Wish::Metering(_)) => Some(PreMeteringGreen),
+            (PreMeteringGreen, Wish::Metering(_)) => self.up(t.minimum_premetering, Warning),
+            (PreMeteringGreen, Wish::Dark) => self.up(t.minimum_premetering, PreMeteringDark),
+            (PreMeteringGreen, Wish::Clear) => self.up(t.maximum_premetering, PreMeteringDark),
+            (Metering, Wish::Dark | Wish::Green | Wish::Clear) => Some(Closing),
+            _ => None,
+        }
+    }
+
+    /// Of the intervals that run on whatever is wanted.
+    fn next_in_time(&self, t: &Timings) -> Option<Interval> {
         match self.interval {
-            Initialization => after(INITIALIZATION_TIME, PreMeteringDark),
-            PreMeteringDark => (metering || wish == Wish::Green).then_some(PreMeteringGreen),
-            PreMeteringGreen => match wish {
-                Wish::Metering(_) => after(t.minimum_premetering, Warning),
-                Wish::Dark => after(t.minimum_premetering, PreMeteringDark),
-                Wish::Clear => after(t.maximum_premetering, PreMeteringDark),
-                Wish::Green => None,
-            },
-            Warning => after(t.warning, StartupGreen),
-            StartupGreen => after(t.startup_green, StartupYellow),
-            StartupYellow => after(t.startup_yellow, StartupRed),
-            StartupRed => after(t.startup_red, Metering),
-            Metering => (!metering).then_some(Closing),
+            Initialization => self.up(INITIALIZATION_TIME, PreMeteringDark),
+            Warning => self.up(t.warning, StartupGreen),
+            StartupGreen => self.up(t.startup_green, StartupYellow),
+            StartupYellow => self.up(t.startup_yellow, StartupRed),
+            StartupRed => self.up(t.startup_red, Metering),
             // the lanes are still as the tick before left them
             Closing => self.all_red().then_some(ShutdownRed),
-            ShutdownRed => after(t.shutdown_red, PreMeteringGreen),
+            ShutdownRed => self.up(t.shutdown_red, PreMeteringGreen),
+            PreMeteringDark | PreMeteringGreen | Metering => unreachable!("it asks what is wanted"),
         }
     }
 

@@ -1,4 +1,4 @@
-//! Document 01 in plain Rust. `reference NAME` writes test inputs and what they should give:
+//! Document 01 in plain Rust, with the preemption of document 02. `reference NAME` writes test inputs and what they should give:
 //!
 //! - `site-bounds stdin`, `site-bounds stdout`: the files of `crates/site_bounds`.
 //! - `call-cases stdin`, `call-cases stdout`: the files of `crates/call_cases`.
@@ -29,6 +29,8 @@ mod lanes;
 mod output;
 mod periods;
 mod poll;
+mod preemption;
+mod preemption_cases;
 mod random;
 mod random_cases;
 mod random_replay;

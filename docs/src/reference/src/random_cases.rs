@@ -3,6 +3,7 @@
 
 use crate::call_run::{from_power_up, timing, Op};
 use crate::cases;
+use crate::preemption_cases::{aimed, Calls};
 use crate::random::Random;
 use crate::site::{bytes, Site, TIMINGS, UNUSED};
 use crate::tick::{Input, State};
@@ -19,6 +20,7 @@ const STRANGE: u16 = 24;
 const SPOILT: u16 = 40;
 const REFUSED: u16 = 16;
 const DAMAGED: u16 = 10;
+const AIMED: u16 = 12;
 const DECISIONS: usize = 5000;
 const FILES: usize = 5000;
 const TIMETABLES: usize = 40;
@@ -100,6 +102,7 @@ pub fn sound_input(r: &mut Random, s: &Setting) -> Input {
     let mut input = quiet(if r.percent(75) { fixed(r.number(150, 1800)) } else { command(r, s, 40) });
     input.clock = jump(r, s);
     samples(r, s, 6, &mut input);
+    input.preemption = r.percent(25) as u16;
     input
 }
 
@@ -222,6 +225,7 @@ fn spoilt_sites(r: &mut Random, s: &Setting) -> Vec<Op> {
 /// Samples that change with every tick or two, up to a period's end and beyond.
 fn busy_run(r: &mut Random, s: &Setting) -> Vec<Op> {
     let mut input = sound_input(r, s);
+    let mut calls = Calls::new(r, s, 2);
     let mut ops = Vec::new();
     for _ in 0..650 {
         if r.percent(3) {
@@ -230,7 +234,9 @@ fn busy_run(r: &mut Random, s: &Setting) -> Vec<Op> {
         if r.percent(1) || input.clock.tenth > 863_990 {
             input.clock = jump(r, s);
         }
-        let count = r.number(1, 3);
+        let length = r.number(1, 3);
+        let (preemption, count) = calls.next(r, length);
+        input.preemption = preemption;
         // at times many vehicles
         let few = r.pick(&[1, 6, 6]);
         samples(r, s, few, &mut input);
@@ -252,6 +258,7 @@ pub fn call_cases(seed: u64) -> Vec<Vec<u8>> {
         let s = any_setting(&mut r, k);
         out.push(strange_states(&mut r, &s));
     }
+    out.extend((0..AIMED).map(|k| aimed(&mut r, 7 * k)));
     let kinds: [(u16, fn(&mut Random, &Setting) -> Vec<Op>); 4] =
         [(BUSY, busy_run), (SPOILT, spoilt_states), (REFUSED, refused_inputs), (DAMAGED, spoilt_sites)];
     for (many, ops) in kinds {

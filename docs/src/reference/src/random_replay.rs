@@ -2,6 +2,7 @@
 //! are damaged at times.
 
 use crate::periods::halves;
+use crate::preemption_cases::Calls;
 use crate::random::Random;
 use crate::random_cases::{any_setting, damaged_file, sound_input};
 use crate::replay::{self, Replayed};
@@ -36,6 +37,7 @@ fn words(input: &Input, n: usize, m: usize) -> Vec<Vec<u8>> {
 /// So many ticks, a tenth apart but for a jump now and then.
 fn inputs(r: &mut Random, s: &Setting, many: usize) -> Vec<Input> {
     let mut input = sound_input(r, s);
+    let mut calls = Calls::new(r, s, 1);
     let mut out = Vec::new();
     for _ in 0..many {
         if r.percent(2) {
@@ -45,6 +47,7 @@ fn inputs(r: &mut Random, s: &Setting, many: usize) -> Vec<Input> {
             input.clock = jump(r, s);
         }
         samples(r, s, 2, &mut input);
+        (input.preemption, _) = calls.next(r, 1);
         let mut sent = input;
         if r.percent(2) {
             damage_input(r, s, &mut sent);
@@ -170,5 +173,6 @@ pub fn answer(run: &Run, tally: &mut Tally) -> Replayed {
     tally.count("replays that end at a line that is no tick", said.output.contains(" is no tick: ") as u64);
     tally.count("replays with something refused", !said.explanation.is_empty() as u64);
     tally.count("replays", 1);
+    said.watch.count(tally);
     said
 }

@@ -2,6 +2,7 @@
 
 use crate::diagnosis;
 use crate::periods::halves;
+use crate::preemption::Watch;
 use crate::row;
 use crate::site::{self, Site};
 use crate::text;
@@ -9,10 +10,11 @@ use crate::tick::{poll_record, power_up, tick, Answer, Input};
 use crate::tick_diagnosis;
 use crate::wanted::lanes;
 
-/// What a run writes: on standard output, and on standard error the line that explains what was refused, if anything was.
+/// What a run writes: on standard output, and on standard error the line that explains what was refused, if anything was. With its calls.
 pub struct Replayed {
     pub output: String,
     pub explanation: String,
+    pub watch: Watch,
 }
 
 const HEADING: &str = "tick refusal interval age lanes lower sign day entry source level wish rate cycle released\n";
@@ -60,7 +62,7 @@ fn number(i: usize, word: &[u8]) -> Result<u32, String> {
     Ok(std::str::from_utf8(word).unwrap().parse().unwrap())
 }
 
-/// The tick of a line, or why it is none: clock, demand and passage of each lane, the mainline lanes' samples, two commands.
+/// The tick of a line, or why it is none: clock, demand and passage of each lane, the mainline lanes' samples, preemption, two commands.
 fn input(site: &Site, line: &[u8]) -> Result<Input, String> {
     let (n, m) = lanes(site);
     let numbers = words(line).into_iter().enumerate().map(|(i, word)| number(i + 1, word)).collect::<Result<Vec<u32>, String>>()?;
@@ -108,7 +110,7 @@ fn lines(text: &[u8]) -> Vec<&[u8]> {
 /// What a run at a site writes.
 fn run(site: &Site, text: &[u8]) -> Replayed {
     let (_, mut state) = power_up(Some(site));
-    let (mut output, mut explanation) = (HEADING.to_string(), String::new());
+    let (mut output, mut explanation, mut watch) = (HEADING.to_string(), String::new(), Watch::default());
     for (i, line) in lines(text).into_iter().enumerate() {
         let input = match input(site, line) {
             Ok(input) => input,
@@ -123,15 +125,18 @@ fn run(site: &Site, text: &[u8]) -> Replayed {
         if answer.refusal != 0 && explanation.is_empty() {
             explanation = tick_diagnosis::line(answer.refusal, &input, lanes(site), i + 1);
         }
+        if answer.refusal == 0 {
+            watch.tick(site, input.preemption, answer.state.interval);
+        }
         state = answer.state;
     }
-    Replayed { output, explanation }
+    Replayed { output, explanation, watch }
 }
 
 /// What the program writes of a site file of that name, and ticks.
 pub fn print(file: &[u8], name: &str, text: &[u8]) -> Replayed {
     match site::read(file) {
         Ok(site) => run(&site, text),
-        Err(refused) => Replayed { output: text::refusal(refused), explanation: diagnosis::of(file, name) },
+        Err(refused) => Replayed { output: text::refusal(refused), explanation: diagnosis::of(file, name), watch: Watch::default() },
     }
 }

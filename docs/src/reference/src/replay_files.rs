@@ -12,13 +12,14 @@ pub struct Line {
     pub clock: [u32; 4],
     pub lanes: Vec<[u32; 2]>,
     pub mainline: Vec<[u32; 4]>,
+    pub preemption: u32,
     pub commands: [[u32; 3]; 2],
 }
 
 impl Line {
     pub fn text(&self) -> String {
         let lanes = self.lanes.as_flattened().iter().chain(self.mainline.as_flattened());
-        let numbers = self.clock.iter().chain(lanes).chain(self.commands.as_flattened());
+        let numbers = self.clock.iter().chain(lanes).chain([&self.preemption]).chain(self.commands.as_flattened());
         numbers.map(u32::to_string).collect::<Vec<_>>().join(" ") + "\n"
     }
 }
@@ -30,6 +31,7 @@ pub fn plain(i: u32) -> Line {
         clock: [2024, 6, 3, 215_700 + i],
         lanes: vec![[1, (i % 40 == 7) as u32], [(i / 100 % 2 == 0) as u32, (i % 55 == 9) as u32]],
         mainline: vec![[1, 20 + i % 60, (i % 30 == 0) as u32, if i % 30 == 0 { 60 + i % 50 } else { 0 }]],
+        preemption: 0,
         commands: [[0, 0, 0]; 2],
     }
 }
@@ -40,14 +42,18 @@ pub fn ticks() -> String {
     // the technician's command, the control centre's, and both
     lines[420..460].iter_mut().for_each(|line| line.commands[0] = [3, 1200, 0]);
     lines[450..480].iter_mut().for_each(|line| line.commands[1] = [4, 300, 2]);
+    // a fire truck: closing, shutdown red, pre-metering green, and the startup begins when it has gone
+    lines[500..560].iter_mut().for_each(|line| line.preemption = 1);
     // on a holiday in the evening the plan's dark
     lines[600..].iter_mut().for_each(|line| line.clock = [2024, 7, 4, 702_000 + line.clock[3] % 100]);
-    // refused: the date, the tenth, a sample of each kind, a command
+    // refused: the date, the tenth, a sample of each kind, a command, and preemption while a call is on
     lines[350].clock[1] = 13;
     lines[351].clock[3] = u32::MAX;
     lines[352].lanes[1][0] = 2;
     lines[353].mainline[0][3] = 65535;
     lines[354].commands[1] = [5, 0, 0];
+    lines[355].preemption = 65535;
+    lines[530].preemption = 2;
     lines.iter().map(Line::text).collect::<String>() + "end\n"
 }
 
@@ -69,6 +75,8 @@ pub fn wide(i: u32) -> Line {
         clock: [2000, 2, 29, i],
         lanes: (0..4).map(|k| [(i >> k) & 1, (i % (10 + 7 * k) == 0) as u32]).collect(),
         mainline: (0..6).map(mainline).collect(),
+        // from the period's last tick but one on
+        preemption: (i >= 298) as u32,
         commands: [[0; 3]; 2],
     }
 }
@@ -86,12 +94,13 @@ fn narrow_site() -> Site {
     site
 }
 
-/// So many ticks there that more than two blocks of output are written, of 65,536 bytes less a line or two each.
+/// So many ticks there, with one call, that more than two blocks of output are written, of 65,536 bytes less a line or two each.
 fn long_ticks() -> String {
     let line = |i: u32| Line {
         clock: [2024, 2, 29, 36_000 + i],
         lanes: vec![[1, (i % 50 == 20) as u32]],
         mainline: vec![[1, i % 7, (i % 90 == 0) as u32, if i % 90 == 0 { 80 } else { 0 }]],
+        preemption: (1500..1700).contains(&i) as u32,
         commands: [[0; 3]; 2],
     };
     (0..2700).map(|i| line(i).text()).collect()

@@ -2,7 +2,10 @@
 
 use crate::replay_files::{plain, Run};
 
-/// A tick's line, without its newline; 18 numbers are wanted.
+/// How many numbers are wanted; word 13 is the preemption.
+const WANTED: usize = 19;
+
+/// A tick's line, without its newline.
 fn line() -> String {
     plain(0).text().trim_end().to_string()
 }
@@ -62,7 +65,7 @@ fn counts() -> Vec<Run> {
         between("too_few_blank_behind.txt", &line[..line.len() - 1]),
         between("too_many.txt", format!("{line} 0")),
         between("far_too_many.txt", format!("{line}{}", " 0".repeat(40))),
-        between("words_70000.txt", format!("{line}{}", " 0".repeat(70_000 - 18))),
+        between("words_70000.txt", format!("{line}{}", " 0".repeat(70_000 - WANTED))),
     ]
 }
 
@@ -74,9 +77,10 @@ fn no_numbers() -> Vec<Run> {
     let bytes = |byte: u8| line.replace("2024", "2o24").bytes().map(|b| if b == b'o' { byte } else { b }).collect::<Vec<u8>>();
     vec![
         between("letter.txt", with(&[(1, "2o24")])),
-        between("letter_in_last_word.txt", with(&[(18, "o")])),
+        between("letter_in_last_word.txt", with(&[(WANTED, "o")])),
         between("plus.txt", format!("+{line}")),
         between("minus.txt", with(&[(6, "-1")])),
+        between("preemption_letter.txt", with(&[(13, "o")])),
         between("point.txt", with(&[(10, "20.0")])),
         between("tab.txt", line.replace("2024 ", "2024\t")),
         between("tab_behind.txt", format!("{line}\t")),
@@ -89,10 +93,10 @@ fn no_numbers() -> Vec<Run> {
         between("two_carriage_returns.txt", format!("{line}\r\r")),
         between("carriage_return_and_blank.txt", format!("{line} \r ")),
         last("two_carriage_returns_no_newline.txt", &format!("{line}\r\r")),
-        last("letter_no_newline.txt", &with(&[(18, "o")])),
+        last("letter_no_newline.txt", &with(&[(WANTED, "o")])),
         between("digits_30_and_letter.txt", with(&[(5, &format!("{digits}o"))])),
         between("letter_and_digits_30.txt", with(&[(4, &format!("o{digits}"))])),
-        between("word_70000_letter.txt", format!("{line}{} o", " 0".repeat(70_000 - 19))),
+        between("word_70000_letter.txt", format!("{line}{} o", " 0".repeat(70_000 - WANTED - 1))),
     ]
 }
 
@@ -104,15 +108,16 @@ fn above() -> Vec<Run> {
         between("tenth_65536.txt", with(&[(4, "65536")])),
         between("sample_65536.txt", with(&[(5, "65536")])),
         between("sample_4294967296.txt", with(&[(5, "4294967296")])),
-        between("last_number_65536.txt", with(&[(18, "65536")])),
+        between("preemption_65536.txt", with(&[(13, "65536")])),
+        between("last_number_65536.txt", with(&[(WANTED, "65536")])),
         between("leading_zeros_65536.txt", with(&[(2, "000000065536")])),
         between("tenth_4294967296.txt", with(&[(4, "4294967296")])),
         between("tenth_of_30_digits.txt", with(&[(4, &digits)])),
         between("sample_of_30_digits.txt", with(&[(7, &digits)])),
-        last("last_number_65536_no_newline.txt", &with(&[(18, "65536")])),
+        last("last_number_65536_no_newline.txt", &with(&[(WANTED, "65536")])),
         // just not: the ticks are refused
         between("year_65535.txt", with(&[(1, "65535")])),
-        between("twice_65535.txt", with(&[(9, "65535"), (18, "65535")])),
+        between("twice_65535.txt", with(&[(9, "65535"), (WANTED, "65535")])),
         between("tenth_4294967295.txt", with(&[(4, "4294967295")])),
     ]
 }
@@ -124,9 +129,10 @@ fn empty() -> Vec<Run> {
         between("blank_before.txt", format!(" {line}")),
         between("blanks_before.txt", format!("   {line}")),
         between("two_blanks.txt", line.replace("2024 ", "2024  ")),
-        between("two_blanks_before_last_word.txt", with(&[(18, " 0")])),
+        between("two_blanks_before_preemption.txt", with(&[(13, " 0")])),
+        between("two_blanks_before_last_word.txt", with(&[(WANTED, " 0")])),
         between("two_blanks_and_carriage_returns.txt", format!("{line}  \r\r")),
-        last("two_blanks_no_newline.txt", &with(&[(18, " 0")])),
+        last("two_blanks_no_newline.txt", &with(&[(WANTED, " 0")])),
     ]
 }
 
@@ -144,7 +150,7 @@ fn first_of_two() -> Vec<Run> {
         between("letter_and_too_few.txt", "2024 6 o"),
         between("too_few_the_last_65536.txt", "2024 6 65536"),
         // a year of 65535 is refused only where the line is a tick
-        between("year_65535_and_letter.txt", with(&[(1, "65535"), (18, "o")])),
+        between("year_65535_and_letter.txt", with(&[(1, "65535"), (WANTED, "o")])),
     ]
 }
 

@@ -37,6 +37,9 @@ fn samples() -> Vec<Run> {
         let set = move |value| move |line: &mut Line| line.mainline[lane - 1][k] = value;
         run(site, name, line, set(most), set(most + 1))
     };
+    let preemption = |site, name, line, value: u32| {
+        run(site, name, line, |line: &mut Line| line.preemption = 1, move |line: &mut Line| line.preemption = value)
+    };
     vec![
         metered("site.bin", "demand_2.txt", plain, 1, 0),
         metered("site.bin", "passage_2.txt", plain, 2, 1),
@@ -46,6 +49,8 @@ fn samples() -> Vec<Run> {
         mainline("site.bin", "speed_251.txt", plain, 1, 3, 250),
         metered("wide.bin", "lane_4_passage_2.txt", wide, 4, 1),
         mainline("wide.bin", "mainline_lane_6_speed_251.txt", wide, 6, 3, 250),
+        preemption("site.bin", "preemption_2.txt", plain, 2),
+        preemption("wide.bin", "preemption_65535.txt", wide, 65535),
     ]
 }
 
@@ -80,6 +85,7 @@ fn first_of_many() -> Vec<Run> {
         line.clock = [2024, 2, 30, 864_000];
         line.lanes[1] = [2, 2];
         line.mainline[0] = [2, 101, 2, 251];
+        line.preemption = 2;
         line.commands = [[3, 149, 1], [5, 1, 1]];
     };
     let good = |_: &mut Line| {};
@@ -105,6 +111,19 @@ fn first_of_many() -> Vec<Run> {
                 line.lanes[1] = [1, 1];
             }),
         ),
+        run(
+            "site.bin",
+            "preemption_and_commands.txt",
+            plain,
+            good,
+            then(|line| {
+                line.clock = [2024, 2, 29, 0];
+                line.lanes[1] = [1, 1];
+                line.mainline[0] = [1, 100, 1, 250];
+            }),
+        ),
+        run("site.bin", "tenth_and_preemption.txt", plain, good, |line| (line.clock[3], line.preemption) = (864_000, 2)),
+        run("wide.bin", "mainline_lane_6_and_preemption.txt", wide, good, |line| (line.mainline[5][3], line.preemption) = (251, 2)),
         run("wide.bin", "mainline_lanes_3_and_5.txt", wide, good, |line| {
             line.mainline[2] = [0, 100, 1, 251];
             line.mainline[4] = [2, 0, 0, 0];

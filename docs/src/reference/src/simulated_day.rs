@@ -7,7 +7,6 @@ use crate::periods::Sample;
 use crate::site::{self, Site, UNUSED};
 use crate::text;
 use crate::tick::{poll_record, power_up, tick, Input};
-use crate::wanted::Command;
 
 const TICKS: u32 = 864_000;
 const SEED: u32 = 1;
@@ -110,7 +109,7 @@ fn print_day(site: &Site) -> String {
     for tenth in 0..TICKS {
         let (demand, passage, mainline) = samples.draw();
         let clock = Clock { date: Date { year: 2025, month: 1, day: 6 }, tenth };
-        let input = Input { clock, demand, passage, mainline, commands: [Command::default(); 2] };
+        let input = Input { demand, passage, mainline, ..Input::at(clock) };
         let answer = tick(Some(site), &state, &input);
         state = answer.state;
         accepted += (answer.refusal == 0) as u32;

@@ -1,4 +1,5 @@
-//! The state and one tick of document 01: its checks, then counts, what is wanted, group interval, lane intervals, release.
+//! The state and one tick of document 01, with the preemption of document 02: its checks, then counts, what is wanted, group interval,
+//! lane intervals, release.
 
 use crate::calendar::{clock_ok, Clock};
 use crate::group::{Group, Indications, Interval, Wanted, OLDEST};
@@ -95,6 +96,7 @@ pub struct Input {
     pub demand: [u16; 4],
     pub passage: [u16; 4],
     pub mainline: [Sample; 6],
+    pub preemption: u16,
     /// Manual and communications.
     pub commands: [Command; 2],
 }
@@ -102,7 +104,14 @@ pub struct Input {
 impl Input {
     /// All zero but for the clock.
     pub fn at(clock: Clock) -> Input {
-        Input { clock, demand: [0; 4], passage: [0; 4], mainline: [Sample::default(); 6], commands: [Command::default(); 2] }
+        Input {
+            clock,
+            demand: [0; 4],
+            passage: [0; 4],
+            mainline: [Sample::default(); 6],
+            preemption: 0,
+            commands: [Command::default(); 2],
+        }
     }
 }
 
@@ -113,8 +122,8 @@ fn sample_ok(s: &Sample) -> bool {
 /// 9, the other way round: all in range, and lanes beyond n or m are not looked at.
 fn samples_ok(site: &Site, input: &Input) -> bool {
     let (n, m) = lanes(site);
-    let metered = input.demand[..n].iter().chain(&input.passage[..n]);
-    metered.into_iter().all(|sample| *sample <= 1) && input.mainline[..m].iter().all(sample_ok)
+    let bits = input.demand[..n].iter().chain(&input.passage[..n]).chain([&input.preemption]);
+    bits.into_iter().all(|sample| *sample <= 1) && input.mainline[..m].iter().all(sample_ok)
 }
 
 /// The checks of a tick behind 14, in their order; 0 when all hold.
@@ -176,7 +185,8 @@ fn accepted(site: &Site, state: &State, input: &Input) -> Answer {
     };
 
     let mut group = group_of(state, n);
-    let released = group.tick(&Timings::of(site), &Wanted { wish: decision.wish, cycle, demand, passage });
+    let wanted = Wanted { wish: decision.wish, preemption: input.preemption == 1, cycle, demand, passage };
+    let released = group.tick(&Timings::of(site), &wanted);
     if let Some(lane) = released {
         periods.green_begun(lane);
     }

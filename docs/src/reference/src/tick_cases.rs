@@ -6,6 +6,7 @@ use crate::call_run::{from_power_up, timing, Op};
 use crate::cases;
 use crate::files::site_a;
 use crate::periods::{Counts, Sample};
+use crate::preemption_cases::Calls;
 use crate::random::Random;
 use crate::site::{bytes, Site, TIMINGS, UNUSED};
 use crate::tick::{Input, KeptLane, State};
@@ -16,10 +17,10 @@ const STRANGE: u16 = 12;
 
 // Pieces.
 
-const NONE: Command = Command { kind: 0, rate: 0, table: 0 };
-const DARK: Command = Command { kind: 1, rate: 0, table: 0 };
-const GREEN: Command = Command { kind: 2, rate: 0, table: 0 };
-const RESPONSIVE: Command = Command { kind: 4, rate: 600, table: 1 };
+pub const NONE: Command = Command { kind: 0, rate: 0, table: 0 };
+pub const DARK: Command = Command { kind: 1, rate: 0, table: 0 };
+pub const GREEN: Command = Command { kind: 2, rate: 0, table: 0 };
+pub const RESPONSIVE: Command = Command { kind: 4, rate: 600, table: 1 };
 
 pub fn fixed(rate: u16) -> Command {
     Command { kind: 3, rate, table: 0 }
@@ -36,6 +37,7 @@ pub fn quiet(manual: Command) -> Input {
         demand: [0; 4],
         passage: [0; 4],
         mainline: [Sample { working: 1, ..Sample::default() }; 6],
+        preemption: 0,
         commands: [manual, NONE],
     }
 }
@@ -48,7 +50,7 @@ pub fn in_demand(manual: Command) -> Input {
     Input { demand: [1; 4], ..quiet(manual) }
 }
 
-fn with_timings(changes: &[(usize, u16)]) -> Site {
+pub fn with_timings(changes: &[(usize, u16)]) -> Site {
     let mut site = site_a();
     for (i, value) in changes {
         site.timings[*i] = *value;
@@ -173,15 +175,15 @@ fn times(interval: u16) -> Vec<u16> {
     }
 }
 
-/// One tick short of each time, at it, and at the oldest; under each wish, the last of them clear.
-fn interval_limits() -> Vec<u8> {
+/// One tick short of each time, at it, and at the oldest; under each wish, the last of them clear; without a call and with one.
+fn interval_limits(preemption: u16) -> Vec<u8> {
     let mut ops = Vec::new();
     for interval in 0..10 {
         let ages: Vec<u16> = times(interval).iter().flat_map(|t| [t - 2, t - 1]).chain([36000]).collect();
         for age in ages {
             for wish in [DARK, GREEN, fixed(900), RESPONSIVE] {
                 ops.push(Op::State(fresh(3, interval, age)));
-                ops.push(Op::Ticks(1, in_demand(wish)));
+                ops.push(Op::Ticks(1, Input { preemption, ..in_demand(wish) }));
             }
         }
     }
@@ -368,7 +370,8 @@ fn changing_rates(mode: u16) -> Vec<u8> {
 
 fn limits() -> Vec<Vec<u8>> {
     vec![
-        interval_limits(),
+        interval_limits(0),
+        interval_limits(1),
         closings(),
         changing_wishes(),
         long_green(),
@@ -600,6 +603,9 @@ fn inputs_at_limits() -> Vec<Input> {
         put(&|x| x.mainline[j].vehicles = 2);
         put(&|x| x.mainline[j].speed = 251);
     }
+    for preemption in [0, 1, 2, 256, 257, UNUSED] {
+        put(&|x| x.preemption = preemption);
+    }
     for working in [0, 1] {
         for (occupied, vehicles, speed) in
             [(100, 1, 250), (100, 0, 250), (0, 1, 0), (101, 1, 250), (0, 2, 0), (0, 0, 251)]
@@ -625,6 +631,11 @@ fn inputs_at_limits() -> Vec<Input> {
             x.clock.date.month += 12 * clock;
             x.passage[0] += 2 * sample;
             x.commands[1].kind += 5 * command;
+        });
+        put(&|x| {
+            x.clock.date.day += 31 * clock;
+            x.preemption = 2 * sample;
+            x.commands[0].kind += 5 * command;
         });
     }
     out
@@ -850,13 +861,14 @@ pub fn samples(r: &mut Random, s: &Setting, count: u16, input: &mut Input) {
 fn damage_sample(r: &mut Random, s: &Setting, input: &mut Input) {
     let (n, m) = (s.site.timings[0], s.site.timings[14]);
     let (i, j) = (r.number(0, n - 1) as usize, r.number(0, m - 1) as usize);
-    match r.from(0, 5) {
+    match r.from(0, 6) {
         0 => input.demand[i] = r.pick(&[2, UNUSED]),
         1 => input.passage[i] = r.pick(&[2, 256]),
         2 => input.mainline[j].working = r.pick(&[2, 257]),
         3 => input.mainline[j].occupied = r.pick(&[101, UNUSED]),
         4 => input.mainline[j].vehicles = r.pick(&[2, UNUSED]),
-        _ => input.mainline[j].speed = r.pick(&[251, UNUSED]),
+        5 => input.mainline[j].speed = r.pick(&[251, UNUSED]),
+        _ => input.preemption = r.pick(&[2, 257, UNUSED]),
     }
 }
 
@@ -909,6 +921,7 @@ fn interruption(r: &mut Random, s: &Setting, input: &Input, ops: &mut Vec<Op>) {
 pub fn random_run(r: &mut Random, s: &Setting) -> Vec<u8> {
     let mut input = quiet(fixed(1200));
     input.clock = jump(r, s);
+    let mut calls = Calls::new(r, s, 12);
     let mut ops = Vec::new();
     for _ in 0..r.from(25, 45) {
         if r.percent(25) {
@@ -917,7 +930,9 @@ pub fn random_run(r: &mut Random, s: &Setting) -> Vec<u8> {
         if r.percent(15) || input.clock.tenth > 863_999 {
             input.clock = jump(r, s);
         }
-        let count = length(r);
+        let length = length(r);
+        let (preemption, count) = calls.next(r, length);
+        input.preemption = preemption;
         samples(r, s, count, &mut input);
         interruption(r, s, &input, &mut ops);
         ops.push(Op::Ticks(count, input));
@@ -991,6 +1006,7 @@ pub fn strange_states(r: &mut Random, s: &Setting) -> Vec<u8> {
         input.clock = jump(r, s);
         let count = r.pick(&[1, 1, 2, 3, 40]);
         samples(r, s, count, &mut input);
+        input.preemption = r.percent(25) as u16;
         if r.percent(60) {
             input.demand[..t[0] as usize].fill(1);
         }

@@ -42,6 +42,7 @@ fn samples(input: &Input, (n, m): (usize, usize)) -> Vec<Number> {
             out.push(number(&format!("mainline lane {}, {name}", j + 1), value as u32, (0, most)));
         }
     }
+    out.push(number("preemption", input.preemption as u32, (0, 1)));
     out
 }
 
