@@ -1,44 +1,10 @@
 -- The runs marked * of document 01: all by computation.
 use mathlib.Core.Path.{refl}
-use Rattle.worked_runs.specs.Run.{stateAfter, answerAt, releasesFrom, releases, isWaiting}
-use Rattle.tick.specs.Checks.{inputRefusal, tickRefusal}
-use Rattle.site.specs.Named.{timingsOf}
-use Rattle.tick.specs.Tick.{powerUpOf, countedIn, decidedIn, cycleIn, movedIn, acceptedTick, refusedTick, tickOf}
-use Rattle.waiting.specs.Bound.{turnTicks, waitingBound}
-use Rattle.tick.specs.Waiting.{atPowerUp, answerTo, isAccepted, onward, greenBegins}
-use Rattle.state.specs.State.{stateSpoilt, freshState}
-use Rattle.group.specs.Group.{allRed, intervalOf, lanesIn, releasedIn, groupOf, lanesMoved, movedWith, movedOf}
-use Rattle.group.specs.Indications.{colourShown, lowerShown, signShown, laneShown, indicationsOf, allDark}
-use Rattle.group.specs.Intervals.{ageOf, timeOf, successorOf, nextInterval}
-use Rattle.group.specs.Range.{colourSpoilt, laneSpoilt, laneKept, laneSpoiltAt, lanesSpoilt, groupSpoilt}
-use Rattle.lanes.specs.Intervals.{riseOf, passagesOf, greenEnds, greenAt, yellowAt, laneTick}
-use Rattle.lanes.specs.Lanes.{laneOf, lanesOf, laneTickAt, lanesTick, laneEntered, lanesEntered}
-use Rattle.release.specs.Cycle.{roundedUp, cycleTicks, offsetTicks}
-use Rattle.release.specs.Release.{isReady, readyAt, anyGreen, mayRelease, releasedOf, greenIf, releaseOf}
-use Rattle.turns.specs.Turn.{nextOf}
-use Rattle.period.specs.Counting.{speedOf, timedOf, laneCounted, laneCountedAt, passagesAt, countedOf, nextSerial, closedOf, afterTick, greensAt, greenCounted, afterRelease}
-use Rattle.period.specs.Counts.{noPeriods, goodOf}
-use Rattle.period.specs.Range.{laneSpoilt as countsLaneSpoilt, laneKept as countsLaneKept, laneSpoiltAt as countsLaneSpoiltAt, meteredSpoilt, meteredKept, meteredSpoiltAt, countsSpoilt, lastTicks, periodsSpoilt}
-use Rattle.wanted.specs.Decision.{dayOf, entryInForce, commandInForce, decisionOf}
-use Rattle.wanted.specs.Wish.{plannedOf, sourceOf, choiceOf}
-use Rattle.inputs.specs.Samples.{meteredBad, laneBad, samplesBad}
-use Rattle.inputs.specs.Commands.{carriesNothing, commandBad, commandsBad}
-use Rattle.calendar.specs.Clock.{clockBad}
-use Rattle.calendar.specs.Dates.{daysBefore, monthLength, isDate, dayNumber, weekdayOf}
-use Rattle.site.specs.Record.{spoiltOf, spoiltSite}
-use Rattle.numbers.specs.Within.{isWithin}
-use Rattle.ranges.specs.Ranges.{timingRange, rateRange, tableRange}
-use Rattle.ranges.specs.Sections.{rangeOf, isGood}
-use Rattle.site.specs.Reading.{sectionOf, readOf}
-use Rattle.site.specs.Writing.{wordsOf}
-use Rattle.calendar.specs.Days.{inMonth, todayOf, monthBefore, yesterdayOf}
-use Rattle.calendar.specs.Holidays.{isFloating, inWeek, dayTypeOf, isNamed, isFixed}
-use Rattle.levels.specs.Measures.{totalsOf, measuresOf}
-use Rattle.levels.specs.Levels.{reachesOf, isSlow, isMet}
 use Rattle.worked_runs.specs.Starred.{Starred}
+use Rattle.worked_runs.proofs.Computing.{computing}
 
 pub starred : Starred
-unfolding isWaiting waitingBound turnTicks atPowerUp answerTo isAccepted onward greenBegins allDark cycleTicks roundedUp dayTypeOf isDate daysBefore monthLength dayNumber weekdayOf inMonth todayOf monthBefore yesterdayOf isFloating inWeek isFixed isNamed measuresOf totalsOf goodOf isMet reachesOf isSlow wordsOf readOf sectionOf isGood rangeOf timingRange isWithin stateAfter answerAt releasesFrom releases inputRefusal tickRefusal timingsOf powerUpOf countedIn decidedIn cycleIn movedIn acceptedTick refusedTick tickOf stateSpoilt freshState allRed intervalOf lanesIn releasedIn groupOf lanesMoved movedWith movedOf colourShown lowerShown signShown laneShown indicationsOf ageOf timeOf successorOf nextInterval colourSpoilt laneSpoilt laneKept laneSpoiltAt lanesSpoilt groupSpoilt riseOf passagesOf greenEnds greenAt yellowAt laneTick laneOf lanesOf laneTickAt lanesTick laneEntered lanesEntered offsetTicks isReady readyAt anyGreen mayRelease nextOf releasedOf greenIf releaseOf speedOf timedOf laneCounted laneCountedAt passagesAt countedOf nextSerial closedOf afterTick greensAt greenCounted afterRelease noPeriods countsLaneSpoilt countsLaneKept countsLaneSpoiltAt meteredSpoilt meteredKept meteredSpoiltAt countsSpoilt lastTicks periodsSpoilt dayOf entryInForce commandInForce decisionOf plannedOf sourceOf choiceOf meteredBad laneBad samplesBad carriesNothing commandBad commandsBad clockBad spoiltOf spoiltSite rateRange tableRange
+unfolding computing
 starred = record {
   cycle-600 = refl;
   cycle-700 = refl;

@@ -1,3 +1,4 @@
 pub mod SiteA
 pub mod Run
 pub mod Starred
+pub mod Preemption

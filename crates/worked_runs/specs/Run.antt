@@ -9,21 +9,31 @@ use Rattle.state.specs.declared.State.{State}
 use Rattle.tick.specs.declared.Input.{Input}
 use Rattle.tick.specs.declared.Ticked.{Ticked}
 use Rattle.tick.specs.Tick.{powerUpOf, tickOf}
-use Rattle.tick.specs.Waiting.{Call, Course, answerTo, isAccepted, onward}
+use Rattle.tick.specs.Course.{Call, Course, answerTo, isAccepted, onward}
 
--- Metering at a rate wanted always, these demands on, no passage: wanted by the technician, at midnight of 1 January 2024.
-abbrev pub meteringAt : ℕ → List ℕ → Input
-meteringAt rate demand = record {
+-- Metering at a rate wanted always, these demands on, no passage: wanted by the technician, at midnight of 1 January 2024; with the fire
+-- service's call, 1 while it is on.
+abbrev pub meteringUnder : ℕ → ℕ → List ℕ → Input
+meteringUnder preemption rate demand = record {
   clock = record { date = record { year = 2024; month = 1; day = 1 }; tenth = 0 };
   lanes = record { demand = demand; passage = replicate 4 0 };
   main = record { working = replicate 6 1; occupied = replicate 6 0; vehicles = replicate 6 0; speed = replicate 6 0 };
+  preemption = preemption;
   manual = record { kind = 3; rate = rate; table = 0 };
   centre = record { kind = 0; rate = 0; table = 0 };
 }
 
+-- The same without the call.
+abbrev pub meteringAt : ℕ → List ℕ → Input
+meteringAt = meteringUnder 0
+
 -- "Metering at 600 wanted always, demand on, no passage."
 abbrev pub metering600 : Input
 metering600 = meteringAt 600 (replicate 4 1)
+
+-- The same with the fire service's call on.
+abbrev pub called600 : Input
+called600 = meteringUnder 1 600 (replicate 4 1)
 
 -- The state after k ticks from a state.
 unfoldable pub stateAfter : Site → Input → ℕ → State → State
@@ -49,8 +59,9 @@ releases x i k = releasesFrom x i 1 k (powerUpOf x .state)
 -- Whether lane i, from 1, waits at each tick of a list, and each is accepted: the words of `Waits`, as a test.
 unfoldable pub isWaiting : ℕ → ℕ → Course → Call → Bool
 isWaiting i most c call =
-    eqb (getD (call .input .lanes .demand) (i - 1) 0) 1
-    && (eqb (answerTo c call .state .group .interval) 7 && leb (answerTo c call .cycle) most)
+    eqb (call .input .preemption) 0
+    && (eqb (getD (call .input .lanes .demand) (i - 1) 0) 1
+    && (eqb (answerTo c call .state .group .interval) 7 && leb (answerTo c call .cycle) most))
 
 abbrev pub waitsThroughout : ℕ → ℕ → Course → List Call → Bool
 waitsThroughout i most c [] = true

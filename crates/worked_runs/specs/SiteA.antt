@@ -17,10 +17,10 @@ siteWith lanes mode = record {
   tables = replicate 120 0;
 }
 
--- Two lanes, every timing at its least.
-abbrev pub leastSite : ℕ → Site
-leastSite mode = record {
-  timings = 2 ∷ mode ∷ 1 ∷ 10 ∷ 10 ∷ 10 ∷ 10 ∷ 10 ∷ 10 ∷ 10 ∷ 10 ∷ 10 ∷ 1 ∷ 1 ∷ 1 ∷ [];
+-- Two lanes, with this maximum green and yellow, every other timing at its least.
+abbrev pub leastWith : ℕ → ℕ → ℕ → Site
+leastWith maxgreen yellow mode = record {
+  timings = 2 ∷ mode ∷ 1 ∷ 10 ∷ maxgreen ∷ yellow ∷ 10 ∷ 10 ∷ 10 ∷ 10 ∷ 10 ∷ 10 ∷ 1 ∷ 1 ∷ 1 ∷ [];
   entries = 0;
   plan = replicate 80 0;
   holidays = 0;
@@ -28,6 +28,14 @@ leastSite mode = record {
   levels = 0;
   tables = replicate 120 0;
 }
+
+-- Two lanes, every timing at its least.
+abbrev pub leastSite : ℕ → Site
+leastSite = leastWith 10 10
+
+-- The longest greens and yellows.
+abbrev pub slowSite : Site
+slowSite = leastWith 100 60 0
 
 abbrev pub siteA : Site
 siteA = siteWith 2 0

@@ -16,7 +16,8 @@ use Rattle.release.specs.Cycle.{cycleTicks}
 use Rattle.waiting.specs.Bound.{waitingBound}
 use Rattle.site.specs.Named.{timingsOf}
 use Rattle.tick.specs.declared.Input.{Input}
-use Rattle.tick.specs.Waiting.{Call, Course, atPowerUp, courseAfter, acceptedTicks, beginsWithin}
+use Rattle.tick.specs.Course.{Call, Course, atPowerUp, courseAfter, acceptedTicks}
+use Rattle.tick.specs.Waiting.{beginsWithin}
 use Rattle.worked_runs.specs.SiteA.{siteWith, leastSite, siteA, siteAWithOffset}
 use Rattle.worked_runs.specs.Run.{meteringAt, metering600, answerAt, releases, waitsThroughout, calls}
 
