@@ -161,13 +161,13 @@ fn op_numbers(kind: u16) -> usize
     ensures { λ r. ⌜ r ≤ 112 ⌝ }
 {
     match kind {
-        TICKS => 45,
+        TICKS => 46,
         STATE => 112,
         DAMAGE => 4,
         REPAIR => 1,
         POWER_UP => 1,
         POLL => 2,
-        DECIDE => 12,
+        DECIDE => 13,
         WRITE => 2,
         _ => 0,
     }
