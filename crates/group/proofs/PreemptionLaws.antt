@@ -1,6 +1,6 @@
 -- What the fire service's call makes of the interval, in the request's own words.
 use Prim.Native.Nat.{ℕ, zero, suc, _≤_, _<_}
-use mathlib.Core.Path.{_≡_, refl, _∙_}
+use mathlib.Core.Path.{_≡_, refl, _∙_, ap}
 use mathlib.Core.Bool.{true, false}
 use native.Mathlib.Omega.{arith}
 use borrow.Author.Tests.{ne-eqb, le-leb, lt-leb}
@@ -38,9 +38,12 @@ no-wish t a b g e f =
     rw (p .0, p .1, ne-eqb (g .interval) 7 f)
 
 module _ (t : Timings) (wish : Wish) (g : Group) where
-  held : (k : ℕ) → isPreMetering k ≡ true → g .interval ≡ k → intervalOf t 1 wish g ≡ k
+  pub stays-held : isPreMetering (g .interval) ≡ true → intervalOf t 1 wish g ≡ g .interval
   unfolding intervalOf isHeld
-  held k e q = rw (q, e)
+  stays-held e = rw e
+
+  held-at : (k : ℕ) → isPreMetering k ≡ true → g .interval ≡ k → intervalOf t 1 wish g ≡ k
+  held-at k e q = stays-held (ap isPreMetering q ∙ e) ∙ q
 
   closes : g .interval ≡ 7 → intervalOf t 1 wish g ≡ 8
   unfolding intervalOf isHeld isPreMetering steeredWish ordinaryInterval nextInterval timeOf successorOf
@@ -53,8 +56,8 @@ module _ (t : Timings) (wish : Wish) (g : Group) where
   pub preempted : Preempted t g (intervalOf t 1 wish g)
   unfolding isPreMetering
   preempted = record {
-    dark = held 1 refl;
-    green = held 2 refl;
+    dark = held-at 1 refl;
+    green = held-at 2 refl;
     metering = closes;
     other = λ e f w. passes e ∙ no-wish t Clear w g e f;
   }

@@ -1,10 +1,10 @@
 -- How long a group takes, with the call on, until it is in pre-metering dark or green: a number that falls at each tick that does not bring
 -- it there.
 use Prim.Native.Nat.{ℕ, zero, suc, _+_, _-_, _≤_, _<_, max, min}
-use mathlib.Core.Path.{_≡_, refl, sym, _∙_}
-use mathlib.Core.Bool.{Bool, true, false, cond, true≢false}
+use mathlib.Core.Path.{_≡_}
+use mathlib.Core.Bool.{false, cond, true≢false}
 use native.Mathlib.Omega.{arith}
-use borrow.Author.Tests.{ltb-true, ltb-false, leb-true, leb-false, le-leb}
+use borrow.Author.Tests.{ltb-true, ltb-false, leb-false, le-leb}
 use lib.Dec.{ltb, leb, eqb}
 use Rattle.loops.proofs.Cases.{by-test}
 use Rattle.timings.specs.declared.Timings.{Timings}
@@ -12,9 +12,8 @@ use Rattle.site.proofs.TimingLaws.{TimingsGood}
 use Rattle.inputs.specs.declared.Metered.{Metered}
 use Rattle.wanted.specs.declared.wish.Wish.{Wish}
 use Rattle.lanes.specs.declared.Lanes.{Lanes}
-use Rattle.lanes.specs.Lanes.{lanesTick, lanesEntered}
-use Rattle.release.specs.Release.{releasedOf, releaseOf}
-use Rattle.release.proofs.ReleaseLaws.{none-released, none-on-entry}
+use Rattle.release.specs.Release.{releaseOf}
+use Rattle.release.proofs.ReleaseLaws.{none-on-entry}
 use Rattle.group.specs.declared.Group.{Group}
 use Rattle.group.specs.Intervals.{ageOf, timeOf, successorOf, nextInterval}
 use Rattle.group.specs.Preemption.{isPreMetering, isHeld, steeredWish}

@@ -1,13 +1,12 @@
 -- How long the lanes of a group take until all are red; a tick shortens it.
 use Prim.Native.Nat.{ℕ, zero, suc, _+_, _-_, _≤_, _<_, max}
-use mathlib.Core.Path.{_≡_, refl, sym, _∙_}
+use mathlib.Core.Path.{_≡_, sym, _∙_}
 use mathlib.Core.Bool.{true, false, not, true≢false}
 use mathlib.Core.List.{List}
 use native.Mathlib.Omega.{arith}
 use borrow.Author.Tests.{leb-true, leb-false, eqb-true, eqb-false, eq-eqb}
 use lib.Dec.{leb, eqb}
 use lib.ListN.{getD}
-use Rattle.loops.specs.Any.{anyFrom}
 use Rattle.loops.proofs.AnyLaws.{any-of-none}
 use Rattle.loops.proofs.Cases.{by-test}
 use Rattle.timings.specs.declared.Timings.{Timings}

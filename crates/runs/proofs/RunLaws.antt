@@ -1,8 +1,8 @@
 -- It happens in time: where something is kept by every call, refused ones change nothing, and a rank falls at each accepted call at which it
--- does not happen, it happens within more accepted calls than the rank.
+-- does not happen, it happens within more accepted calls than the rank. And what it brings about, if every call keeps that, lasts.
 use Prim.Native.Nat.{ℕ, zero, suc, _+_, _≤_, _<_}
-use mathlib.Core.Path.{_≡_, refl}
-use mathlib.Core.Bool.{Bool, true, false, _||_}
+use mathlib.Core.Path.{_≡_, refl, sym}
+use mathlib.Core.Bool.{Bool, true, false, _&&_, _||_, true≢false}
 use mathlib.Core.List.{List, [], _∷_, _++_}
 use native.Mathlib.Omega.{arith}
 use Rattle.loops.proofs.Cases.{by-test}
@@ -39,6 +39,32 @@ module _ {Course Call : Type 0} (onward : Course → Call → Course) (accepted 
     pub reached : (c : Course) (calls : List Call) → Going c → AtEach onward accepted Given c calls → Going (after onward c calls)
     reached c [] going given = going
     reached c (call ∷ calls) going given = reached (onward c call) calls (keeps c call going (given .0)) (given .1)
+
+    -- So does what every call keeps besides.
+    pub endures : (Holds : Course → Type 0)
+        → ((c : Course) (call : Call) → Going c → (accepted c call ≡ true → Given c call) → Holds c → Holds (onward c call))
+        → (c : Course) (calls : List Call) → Going c → AtEach onward accepted Given c calls → Holds c → Holds (after onward c calls)
+    endures Holds holds c [] going given h = h
+    endures Holds holds c (call ∷ calls) going given h =
+        endures Holds holds (onward c call) calls (keeps c call going (given .0)) (given .1) (holds c call going (given .0) h)
+
+    -- What something brings about, and every call then keeps, holds after a list in which it happens.
+    pub lasts : (Holds : Course → Type 0) (happens : Course → Call → Bool)
+        → ((c : Course) (call : Call) → happens c call ≡ true → Holds (onward c call))
+        → ((c : Course) (call : Call) → Going c → (accepted c call ≡ true → Given c call) → Holds c → Holds (onward c call))
+        → (k : ℕ) (c : Course) (calls : List Call) → Going c → AtEach onward accepted Given c calls
+        → happensWithin onward accepted happens k c calls ≡ true → Holds (after onward c calls)
+    lasts Holds happens begins holds k c [] going given e = absurd (true≢false (sym e))
+    lasts Holds happens begins holds zero c (call ∷ calls) going given e = absurd (true≢false (sym e))
+    lasts Holds happens begins holds (suc k) c (call ∷ calls) going given e =
+        let on = keeps c call going (given .0) in
+        by-test (accepted c call && happens c call)
+        (λ hit. endures Holds holds (onward c call) calls on (given .1) (begins c call (second (accepted c call) hit)))
+        (λ miss. lasts Holds happens begins holds _ (onward c call) calls on (given .1) (rw miss at e))
+      where
+        second : (a : Bool) {b : Bool} → (a && b) ≡ true → b ≡ true
+        second true e = e
+        second false e = absurd (true≢false (sym e))
 
     module _ (Waits : Course → Call → Type 0) (happens : Course → Call → Bool) (rank : Course → ℕ)
         (stays : (c : Course) (call : Call) → accepted c call ≡ false → onward c call ≡ c)

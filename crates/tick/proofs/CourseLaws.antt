@@ -2,9 +2,11 @@
 use Prim.Native.Nat.{ℕ}
 use mathlib.Core.Path.{_≡_, refl, sym, _∙_, ap, subst}
 use mathlib.Core.Bool.{true, false, true≢false}
+use mathlib.Core.List.{List, _++_}
 use native.Mathlib.Omega.{arith}
 use borrow.Author.Tests.{eqb-true, eq-eqb}
 use lib.Dec.{eqb}
+use Rattle.runs.proofs.RunLaws.{split-run, reached}
 use Rattle.site.specs.declared.Site.{Site}
 use Rattle.site.specs.Record.{spoiltSite}
 use Rattle.site.specs.Named.{timingsOf, meteredLanes, shapeOf}
@@ -16,10 +18,9 @@ use Rattle.state.specs.State.{freshState}
 use Rattle.state.proofs.StateLaws.{StateGood, fresh-good}
 use Rattle.waiting.proofs.LaneRank.{Sound}
 use Rattle.waiting.proofs.Chain.{Chain, chain-enter, chain-moved}
-use Rattle.tick.specs.declared.Input.{Input}
 use Rattle.tick.specs.Checks.{tickRefusal}
 use Rattle.tick.specs.Tick.{powerUpOf, decidedIn, cycleIn, movedIn, acceptedTick, refusedTick, tickOf}
-use Rattle.tick.specs.Course.{Call, Course, atPowerUp, answerTo, isAccepted, onward}
+use Rattle.tick.specs.Course.{Call, Course, atPowerUp, answerTo, isAccepted, onward, courseAfter, AtAccepted}
 use Rattle.tick.proofs.TickLaws.{Accepted, accepted, sound-timings, tick-keeps}
 
 -- A tick is accepted where no check refuses it, and is then what the rules make of it; a refused one leaves all as it was.
@@ -109,3 +110,10 @@ module _ (x : Site) (ok : spoiltSite x ≡ false) where
     pub released-is : isAccepted c call ≡ true → answerTo c call .released ≡ movedIn x (c .state) (call .input) .released
     unfolding acceptedTick
     released-is e = ap (λ r. r .released) (answer e)
+
+  -- What a list of ticks at the power-up's site has come to before a part of it, and that the part is at that site too.
+  pub before-part : (before run : List Call) → AtAccepted (λ c call. call .site ≡ x) (atPowerUp x) (before ++ run)
+      → Going (courseAfter (atPowerUp x) before) × AtAccepted (λ c call. call .site ≡ x) (courseAfter (atPowerUp x) before) run
+  before-part before run same =
+      let parts = split-run onward isAccepted (λ c call. call .site ≡ x) (atPowerUp x) before run same in
+      (reached onward isAccepted Going (λ c call. call .site ≡ x) keeps (atPowerUp x) before start (parts .0), parts .1)

@@ -1,27 +1,25 @@
 -- The fire service's call: pre-metering dark and green are kept by every tick, and the ticks until then fall at each accepted one.
 use Prim.Native.Nat.{ℕ, _-_, _≤_, _<_}
-use mathlib.Core.Path.{_≡_, sym, _∙_, ap, subst}
+use mathlib.Core.Path.{_≡_, refl, sym, _∙_, ap}
 use mathlib.Core.Bool.{true, false}
-use mathlib.Core.List.{List, _++_}
+use mathlib.Core.List.{List}
 use native.Mathlib.Omega.{arith}
-use Rattle.runs.proofs.RunLaws.{split-run, both-run, reached, within}
+use Rattle.runs.proofs.RunLaws.{both-run, endures, lasts, within}
 use Rattle.loops.proofs.Cases.{by-test}
 use Rattle.site.specs.declared.Site.{Site}
 use Rattle.site.specs.Record.{spoiltSite}
-use Rattle.site.specs.Named.{timingsOf, meteredLanes}
+use Rattle.site.specs.Named.{timingsOf}
 use Rattle.site.proofs.TimingLaws.{timings-good}
-use Rattle.wanted.specs.declared.wish.Wish.{Wish}
 use Rattle.group.specs.declared.Group.{Group}
 use Rattle.group.specs.Preemption.{isPreMetering}
 use Rattle.group.specs.Group.{intervalOf, groupOf, movedWith, movedOf}
-use Rattle.group.proofs.PreemptionLaws.{preempted}
-use Rattle.state.specs.declared.State.{State}
+use Rattle.group.proofs.PreemptionLaws.{stays-held}
 use Rattle.preemption.specs.Clearing.{clearingTicks}
 use Rattle.preemption.proofs.ClearingRank.{groupClearIn, clear-falls, clear-within}
 use Rattle.tick.specs.Tick.{decidedIn, cycleIn, movedIn}
-use Rattle.tick.specs.Course.{Call, Course, atPowerUp, answerTo, isAccepted, onward, courseAfter, AtAccepted}
-use Rattle.tick.specs.Preemption.{Called, clears, Cleared, PreemptionClears}
-use Rattle.tick.proofs.CourseLaws.{stays, Going, start, keeps, group-is}
+use Rattle.tick.specs.Course.{Call, Course, atPowerUp, isAccepted, onward, courseAfter, AtAccepted, acceptedTicks}
+use Rattle.tick.specs.Preemption.{Called, clears, clearsWithin, PreemptionClears}
+use Rattle.tick.proofs.CourseLaws.{stays, Going, before-part, keeps, group-is}
 
 module _ (x : Site) (ok : spoiltSite x ≡ false) where
   -- A tick, accepted at the power-up's site, and with the call on.
@@ -45,22 +43,19 @@ module _ (x : Site) (ok : spoiltSite x ≡ false) where
     on : Going x ok (onward c call)
     on = keeps x ok c call going (λ e. given e .0)
 
-    -- An interval that is held stays.
-    held : (k : ℕ) → ((wish : Wish) (g : Group) → g .interval ≡ k → intervalOf (timingsOf x) 1 wish g ≡ k)
-        → c .state .group .interval ≡ k → onward c call .state .group .interval ≡ k
-    held k holds q =
+    -- Pre-metering dark and green stay.
+    stays-there : isPreMetering (c .state .group .interval) ≡ true → onward c call .state .group .interval ≡ c .state .group .interval
+    stays-there h =
         by-test (isAccepted c call)
-        (λ e. interval-after e ∙ holds (decidedIn x (c .state) (call .input) .wish) (c .state .group) q)
-        (λ e. ap (λ (d : Course). d .state .group .interval) (stays c call e) ∙ q)
+        (λ e. interval-after e ∙ stays-held (timingsOf x) (decidedIn x (c .state) (call .input) .wish) (c .state .group) h)
+        (λ e. ap (λ (d : Course). d .state .group .interval) (stays c call e))
 
-  -- What a list of such ticks holds.
-  stays-in : (k : ℕ) → ((wish : Wish) (g : Group) → g .interval ≡ k → intervalOf (timingsOf x) 1 wish g ≡ k)
-      → (c : Course) (run : List Call) → Going x ok c → AtAccepted Given c run
+  -- So they do over a list of such ticks.
+  stays-in : (k : ℕ) → isPreMetering k ≡ true → (c : Course) (run : List Call) → Going x ok c → AtAccepted Given c run
       → c .state .group .interval ≡ k → courseAfter c run .state .group .interval ≡ k
-  stays-in k holds c run going given q =
-      reached onward isAccepted (λ c. Going x ok c × (c .state .group .interval ≡ k)) Given
-      (λ c call w given. (on c call (w .0) given, held c call (w .0) given k holds (w .1)))
-      c run (going, q) given .1
+  stays-in k pre =
+      endures onward isAccepted (Going x ok) Given on (λ c. c .state .group .interval ≡ k)
+      (λ c call going given q. stays-there c call going given (ap isPreMetering q ∙ pre) ∙ q)
 
   -- Ticks left, the present one not included.
   abbrev rank : Course → ℕ
@@ -80,17 +75,32 @@ module _ (x : Site) (ok : spoiltSite x ≡ false) where
       rw after (nearer (sym (ap (λ (g : Group). isPreMetering (g .interval)) after) ∙ none)) in
       omega (arith, next .0, fewer)
 
+  -- The group is there in time,
+  in-time : (c : Course) (run : List Call) → Going x ok c → AtAccepted Given c run → AtAccepted Called c run
+      → clearingTicks (timingsOf x) ≤ acceptedTicks c run → clearsWithin (clearingTicks (timingsOf x)) c run ≡ true
+  in-time c run going given called long =
+      within onward isAccepted (Going x ok) Given on Called clears rank stays falls (clearingTicks (timingsOf x)) c run going given called
+      (omega (arith, in-range c going)) long
+
+  -- and once there, it is there at the list's end.
+  once-there : (k : ℕ) (c : Course) (run : List Call) → Going x ok c → AtAccepted Given c run
+      → clearsWithin k c run ≡ true → isPreMetering (courseAfter c run .state .group .interval) ≡ true
+  unfolding clears onward
+  once-there =
+      lasts onward isAccepted (Going x ok) Given on (λ c. isPreMetering (c .state .group .interval) ≡ true) clears (λ c call e. e)
+      (λ c call going given h. ap isPreMetering (stays-there c call going given h) ∙ h)
+
 pub preemption-clears : (x : Site) → PreemptionClears x
-unfolding PreemptionClears
+unfolding PreemptionClears isPreMetering
 preemption-clears x ok before run same called =
     let t = timingsOf x in
-    let parts = split-run onward isAccepted (λ c call. call .site ≡ x) (atPowerUp x) before run same in
     let c = courseAfter (atPowerUp x) before in
-    let going = reached onward isAccepted (Going x ok) (λ c call. call .site ≡ x) (keeps x ok) (atPowerUp x) before (start x ok) (parts .0) in
-    let given = both-run onward isAccepted (λ c call. call .site ≡ x) Called c run (parts .1) called in
+    let part = before-part x ok before run same in
+    let going = part .0 in
+    let given = both-run onward isAccepted (λ c call. call .site ≡ x) Called c run (part .1) called in
     record {
-      dark = stays-in x ok 1 (λ wish g. preempted t wish g .dark) c run going given;
-      green = stays-in x ok 2 (λ wish g. preempted t wish g .green) c run going given;
-      in-time = λ long. within onward isAccepted (Going x ok) (Given x ok) (on x ok) Called clears (rank x ok) stays (falls x ok)
-          (clearingTicks t) c run going given called (omega (arith, in-range x ok c going)) long;
+      dark = stays-in x ok 1 refl c run going given;
+      green = stays-in x ok 2 refl c run going given;
+      in-time = in-time x ok c run going given called;
+      at-end = λ long. once-there x ok (clearingTicks t) c run going given (in-time x ok c run going given called long);
     }

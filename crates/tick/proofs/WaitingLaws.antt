@@ -8,7 +8,7 @@ use native.Mathlib.Nat.{mul-le-mul-left}
 use borrow.Author.Tests.{eq-eqb}
 use lib.Dec.{eqb}
 use lib.ListN.{getD}
-use Rattle.runs.proofs.RunLaws.{split-run, reached, within}
+use Rattle.runs.proofs.RunLaws.{within}
 use Rattle.site.specs.declared.Site.{Site}
 use Rattle.site.specs.Record.{spoiltSite}
 use Rattle.site.specs.Named.{timingsOf, meteredLanes}
@@ -31,7 +31,7 @@ use Rattle.tick.specs.Tick.{decidedIn, cycleIn, movedIn, acceptedTick}
 use Rattle.tick.specs.Course.{Call, Course, atPowerUp, answerTo, isAccepted, onward, courseAfter, AtAccepted}
 use Rattle.tick.specs.Waiting.{Waits, greenBegins, beginsWithin, WaitingBound}
 use Rattle.tick.proofs.TickLaws.{cycle-in, some-cycle}
-use Rattle.tick.proofs.CourseLaws.{stays, sound, Going, start, passed, answer, keeps, group-is, released-is}
+use Rattle.tick.proofs.CourseLaws.{stays, sound, Going, before-part, passed, answer, keeps, group-is, released-is}
 
 -- What lane j shows.
 colours-at : (g : Group) (n j : ℕ) → j < 4 → getD (indicationsOf g n .colours) j 0 ≡ laneShown g n j
@@ -121,16 +121,16 @@ pub waiting-bound : (x : Site) → WaitingBound x
 unfolding WaitingBound
 waiting-bound x ok before run same i most least in-site waiting long =
     let t = timingsOf x in
-    let parts = split-run onward isAccepted (λ c call. call .site ≡ x) (atPowerUp x) before run same in
     let c = courseAfter (atPowerUp x) before in
-    let going = reached onward isAccepted (Going x ok) (λ c call. call .site ≡ x) (keeps x ok) (atPowerUp x) before (start x ok) (parts .0) in
+    let part = before-part x ok before run same in
+    let going = part .0 in
     let j = i - 1 in
     let place : i ≡ j + 1 = omega arith in
     let hj : j < meteredLanes x = omega arith in
     let low = group-rank-most t (sound x ok) (min most 720) j (lanes-are hj) (c .state .group) (good-group-of (going .good .group)) (going .chain) in
     subst (λ (k : ℕ). beginsWithin k (waitingBound t most) c run ≡ true) (sym place)
     (within onward isAccepted (Going x ok) (λ c call. call .site ≡ x) (keeps x ok) (Waits (j + 1) most) (greenBegins (j + 1)) (rank-of x ok most j hj) stays
-    (falls x ok most j hj) (waitingBound t most) c run going (parts .1)
+    (falls x ok most j hj) (waitingBound t most) c run going (part .1)
     (subst (λ (k : ℕ). AtAccepted (Waits k most) c run) place waiting)
     (omega (arith, low, bound-grows t (sound x ok) (min most 720) most (omega arith))) long)
   where
