@@ -53,7 +53,7 @@ module _ (t : Timings) (wish : Wish) (g : Group) where
   unfolding intervalOf isHeld steeredWish
   passes e = rw e
 
-  pub preempted : Preempted t g (intervalOf t 1 wish g)
+  preempted : Preempted t g (intervalOf t 1 wish g)
   unfolding isPreMetering
   preempted = record {
     dark = held-at 1 refl;
@@ -63,7 +63,7 @@ module _ (t : Timings) (wish : Wish) (g : Group) where
   }
 
 -- Without the call what is wanted rules.
-pub not-called : (t : Timings) (preemption : ℕ) (wish : Wish) (g : Group) → eqb preemption 1 ≡ false → intervalOf t preemption wish g ≡ ordinaryInterval t wish g
+not-called : (t : Timings) (preemption : ℕ) (wish : Wish) (g : Group) → eqb preemption 1 ≡ false → intervalOf t preemption wish g ≡ ordinaryInterval t wish g
 unfolding intervalOf isHeld steeredWish
 not-called t preemption wish g e = rw e
 

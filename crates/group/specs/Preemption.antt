@@ -13,7 +13,7 @@ isPreMetering interval = eqb interval 1 || eqb interval 2
 unfoldable pub isHeld : ℕ → ℕ → Bool
 isHeld preemption interval = eqb preemption 1 && isPreMetering interval
 
--- "From any other interval the group advances by the ordinary path": that of a wish not to meter, so that "metering under preemption turns to
--- closing". The other intervals that are not held look at no wish.
+-- "From any other interval the group advances by the ordinary path": that of a wish not to meter, so that "metering under preemption turns
+-- to closing". The other intervals that are not held look at no wish.
 unfoldable pub steeredWish : ℕ → Wish → Wish
 steeredWish preemption wish = cond (eqb preemption 1) Clear wish

@@ -59,7 +59,7 @@ pub const FIXED: u16 = 3;
 
 pub const RESPONSIVE: u16 = 4;
 
-// A detector value is out of range.
+// A detector's value or a call's is out of range.
 pub const BAD_SAMPLE: u8 = 9;
 
 // A command is out of range.

@@ -27,9 +27,9 @@ use Rattle.preemption.proofs.LanesRed.{allRedIn, lanes-red-most, lanes-
 abbrev left : ℕ → ℕ → ℕ
 left time age = max 1 (time - age)
 
--- Ticks, the present one included, until the group is in pre-metering dark or green, from this interval at this age, with lanes that are all
--- red in so many ticks.
-unfoldable pub clearIn : Timings → ℕ → ℕ → ℕ → ℕ
+-- Ticks, the present one included, until the group is in pre-metering dark or green, from this interval at this age, with lanes that are
+-- all red in so many ticks.
+clearIn : Timings → ℕ → ℕ → ℕ → ℕ
 clearIn t interval age red =
     cond (eqb interval 0) (left 50 age)
     (cond (eqb interval 3) (left (t .warning) age + t .startgreen + t .startyellow + t .startred + 2 + t .shutdown)
@@ -40,7 +40,7 @@ clearIn t interval age red =
     (cond (eqb interval 8) (red + 1 + t .shutdown)
     (cond (eqb interval 9) (left (t .shutdown) age) 1)))))))
 
-unfoldable pub groupClearIn : Timings → Group → ℕ
+pub groupClearIn : Timings → Group → ℕ
 groupClearIn t g = clearIn t (g .interval) (g .age) (allRedIn t (g .lanes))
 
 age-min : (age : ℕ) → ageOf age ≡ min (age + 1) 36000
@@ -48,8 +48,8 @@ unfolding ageOf
 age-min age = by-test (ltb age 36000) (λ e. rw e (omega (arith, ltb-true age 36000 e))) (λ e. rw e (omega (arith, ltb-false age 36000 e)))
 
 -- An interval whose time is not up has a tick less to run.
-one-less : (time age rest : ℕ) → time ≤ 600 → leb time (ageOf age) ≡ false → left time (ageOf age) + rest < left time age + rest
-one-less time age rest h e = omega (arith, age-min age, leb-false time (ageOf age) e)
+one-less : (time age : ℕ) → time ≤ 600 → leb time (ageOf age) ≡ false → left time (ageOf age) < left time age
+one-less time age h e = omega (arith, age-min age, leb-false time (ageOf age) e)
 
 module _ (t : Timings) (ok : TimingsGood t) (wish : Wish) (cycle : ℕ) (samples : Metered) where
   abbrev after : Group → Group
@@ -62,25 +62,25 @@ module _ (t : Timings) (ok : TimingsGood t) (wish : Wish) (cycle : ℕ) (samples
   step : (i age : ℕ) (s : Lanes) → i ≤ 9 → LanesGood (isOwn i) s (t .lanes) → Nearer (record { interval = i; age = age; lanes = s })
   unfolding movedOf movedWith groupOf lanesMoved lanesIn releasedIn releaseOf intervalOf ordinaryInterval nextInterval timeOf successorOf isHeld isPreMetering steeredWish groupClearIn clearIn
   step zero age s h v =
-      by-test (leb 50 (ageOf age)) (λ e. rw e (λ f. absurd (true≢false f))) (λ e. rw e (λ _. omega (arith, one-less 50 age 0 (omega arith) e)))
+      by-test (leb 50 (ageOf age)) (λ e. rw e (λ f. absurd (true≢false f))) (λ e. rw e (λ _. omega (arith, one-less 50 age (omega arith) e)))
   step (suc zero) age s h v = λ f. absurd (true≢false f)
   step (suc (suc zero)) age s h v = λ f. absurd (true≢false f)
   step (suc (suc (suc zero))) age s h v =
       by-test (leb (t .warning) (ageOf age))
       (λ e. rw e (λ _. omega (arith, ok .startgreen)))
-      (λ e. rw e (λ _. omega (arith, one-less (t .warning) age 0 (ok .warning .1) e)))
+      (λ e. rw e (λ _. omega (arith, one-less (t .warning) age (ok .warning .1) e)))
   step (suc (suc (suc (suc zero)))) age s h v =
       by-test (leb (t .startgreen) (ageOf age))
       (λ e. rw e (λ _. omega (arith, ok .startyellow)))
-      (λ e. rw e (λ _. omega (arith, one-less (t .startgreen) age 0 (ok .startgreen .1) e)))
+      (λ e. rw e (λ _. omega (arith, one-less (t .startgreen) age (ok .startgreen .1) e)))
   step (suc (suc (suc (suc (suc zero))))) age s h v =
       by-test (leb (t .startyellow) (ageOf age))
       (λ e. rw e (λ _. omega (arith, ok .startred)))
-      (λ e. rw e (λ _. omega (arith, one-less (t .startyellow) age 0 (omega (arith, ok .startyellow)) e)))
+      (λ e. rw e (λ _. omega (arith, one-less (t .startyellow) age (omega (arith, ok .startyellow)) e)))
   step (suc (suc (suc (suc (suc (suc zero)))))) age s h v =
       by-test (leb (t .startred) (ageOf age))
       (λ e. rw (e, none-on-entry t cycle (samples .demand) (ok .lanes-least) (ok .lanes-most) (omega (arith, ok .red-least)), entered-red t ok) (λ _. omega arith))
-      (λ e. rw e (λ _. omega (arith, one-less (t .startred) age 0 (ok .startred .1) e)))
+      (λ e. rw e (λ _. omega (arith, one-less (t .startred) age (ok .startred .1) e)))
   step (suc (suc (suc (suc (suc (suc (suc zero))))))) age s h v =
       rw (le-leb 0 (ageOf age) (omega arith)) (λ _. omega (arith, lanes-red-fall t ok s (samples .passage)))
   step (suc (suc (suc (suc (suc (suc (suc (suc zero)))))))) age s h v =
@@ -90,7 +90,7 @@ module _ (t : Timings) (ok : TimingsGood t) (wish : Wish) (cycle : ℕ) (samples
   step (suc (suc (suc (suc (suc (suc (suc (suc (suc zero))))))))) age s h v =
       by-test (leb (t .shutdown) (ageOf age))
       (λ e. rw e (λ f. absurd (true≢false f)))
-      (λ e. rw e (λ _. omega (arith, one-less (t .shutdown) age 0 (ok .shutdown .1) e)))
+      (λ e. rw e (λ _. omega (arith, one-less (t .shutdown) age (ok .shutdown .1) e)))
   step (suc (suc (suc (suc (suc (suc (suc (suc (suc (suc i)))))))))) age s h v = absurd (omega arith)
 
   pub clear-falls : (g : Group) → GroupGood g (t .lanes) → Nearer g

@@ -36,7 +36,7 @@ most-most f zero k h = omega arith
 most-most f (suc n) k h = omega (arith, most-most f n k (λ i l. h i (omega arith)), h n (omega arith))
 
 -- Ticks, the present one included, until all lanes are red; 0 where they are.
-unfoldable pub allRedIn : Timings → Lanes → ℕ
+pub allRedIn : Timings → Lanes → ℕ
 allRedIn t s = mostOf (λ i. redIn t 0 (laneOf s i)) (t .lanes)
 
 -- A lane that is not red takes some tick, and a whole green and yellow at the most.

@@ -36,7 +36,6 @@ pub record Accepted (x : Site) (s : State) (i : Input) : Type 0 where
   pub state : stateSpoilt s (shapeOf x) ≡ false
   pub clock : clockBad (i .clock) ≡ false
   pub samples : samplesBad (i .lanes) (i .main) (meteredLanes x) (mainlineLanes x) ≡ false
-  pub call : callBad (i .preemption) ≡ false
   pub commands : commandsBad (i .manual) (i .centre) ≡ false
 
 -- Where a check's answer is 0, what it asks does not hold, and the rest answers 0.
@@ -51,9 +50,9 @@ accepted x s i e =
     let q = passes (stateSpoilt s (shapeOf x)) 13 _ (omega arith) (p .1) in
     let r = passes (clockBad (i .clock)) 8 _ (omega arith) (q .1) in
     let u = passes (sampleBad (shapeOf x) i) 9 _ (omega arith) (r .1) in
-    let w = neither (samplesBad (i .lanes) (i .main) (meteredLanes x) (mainlineLanes x)) (callBad (i .preemption)) (u .0) in
+    let w = neither (samplesBad (i .lanes) (i .main) (meteredLanes x) (mainlineLanes x)) (callBad (i .preemption)) (u .0) .0 in
     let v = passes (commandsBad (i .manual) (i .centre)) 10 0 (omega arith) (u .1) in
-    record { site = p .0; state = q .0; clock = r .0; samples = w .0; call = w .1; commands = v .0 }
+    record { site = p .0; state = q .0; clock = r .0; samples = w; commands = v .0 }
 
 -- The timings of a site that is not spoilt.
 pub sound-timings : (x : Site) → spoiltSite x ≡ false → Sound (timingsOf x)

@@ -33,13 +33,13 @@ pub record Cleared (bound : ℕ) (c : Course) (run : List Call) : Type 0 where
   pub dark : c .state .group .interval ≡ 1 → intervalAfter c run ≡ 1
   -- "A pre-metering green is held however old it is."
   pub green : c .state .group .interval ≡ 2 → intervalAfter c run ≡ 2
-  -- From any interval the group is in one of the two at one of the first ticks, as many as the bound, if there are so many;
+  -- From any interval the group is in one of the two at one of the first accepted ticks, as many as the bound, if there are so many;
   pub in-time : bound ≤ acceptedTicks c run → clearsWithin bound c run ≡ true
   -- and so it still is at the list's end.
   pub at-end : bound ≤ acceptedTicks c run → isPreMetering (intervalAfter c run) ≡ true
 
--- Take every list of ticks, refused ones included, from an accepted power-up, each accepted one at the power-up's site, and every part `run` at
--- whose accepted ticks the call is on.
+-- Take every list of ticks, refused ones included, from an accepted power-up, each accepted one at the power-up's site, and every part
+-- `run` at whose accepted ticks the call is on.
 unfoldable pub PreemptionClears : Site → Type 0
 PreemptionClears x =
     spoiltSite x ≡ false

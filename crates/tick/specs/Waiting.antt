@@ -12,8 +12,8 @@ use Rattle.site.specs.Named.{timingsOf, meteredLanes}
 use Rattle.waiting.specs.Bound.{waitingBound}
 use Rattle.tick.specs.Course.{Call, Course, atPowerUp, answerTo, isAccepted, onward, courseAfter, AtAccepted, acceptedTicks}
 
--- Lane i, from 1, waits at a tick: "the lane's demand is on, the group, the tick done, is in metering, and no cycle in force exceeds C". "The
--- waiting bound covers ticks without preemption" (document 02, A1).
+-- Lane i, from 1, waits at a tick: "the lane's demand is on, the group, the tick done, is in metering, and no cycle in force exceeds C".
+-- "The waiting bound covers ticks without preemption" (document 02, A1).
 pub record Waits (i most : ℕ) (c : Course) (call : Call) : Type 0 where
   pub preemption : call .input .preemption ≡ 0
   pub demand : getD (call .input .lanes .demand) (i - 1) 0 ≡ 1

@@ -24,8 +24,7 @@ pub record Sound (t : Timings) : Type 0 where
   pub some-red : 2 ≤ t .minred
   pub red : t .minred ≤ 720
 
--- Ticks, the present one included, until the lane has been red its minimum, is in demand and ready, whatever the cycle up to c; 1 where it is
--- ready at the present tick.
+-- Ticks, the present one included, until a lane in demand is ready, whatever the cycle up to c; 1 where it is so at the present tick.
 unfoldable pub readyIn : Timings → ℕ → Lane → ℕ
 readyIn t c l = max 1 (max (c - l .counter) (redIn t (t .minred) l))
 

@@ -1,5 +1,5 @@
--- Document 02, A1: the number of ticks that the fire service waits at the most is exact, where the startup is the longer way and where the
--- closing is. One proof, `no-tick-to-spare`, shows both.
+-- Document 02, A1: the number of ticks that the fire service waits at the most is exact at a site where the startup is the longer way, and
+-- at one where the closing is. One proof, `no-tick-to-spare`, shows both.
 use mathlib.Core.Path.{_≡_}
 use mathlib.Core.Bool.{true, false}
 use mathlib.Core.List.{[], _∷_}
@@ -19,7 +19,7 @@ warned = courseAfter (atPowerUp (leastSite 0)) (calls (leastSite 0) metering600 
 abbrev pub justReleased : Course
 justReleased = courseAfter (atPowerUp slowSite) (calls slowSite metering600 102)
 
--- A call that begins at the very next tick finds pre-metering green at the last tick of the number, and not at the one before.
+-- A call that begins at the very next tick finds pre-metering dark or green at the last tick of the number, and at none before.
 pub record NoTickToSpare : Type 0 where
   pub warning-at-52 : warned .state .group ≡ record { interval = 3; age = 0; lanes = lanesEntered 2 }
   pub clearing-at-least : clearingTicks (timingsOf (leastSite 0)) ≡ 52

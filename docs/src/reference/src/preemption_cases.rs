@@ -8,7 +8,7 @@ use crate::random::Random;
 use crate::site::{bytes, Site, UNUSED};
 use crate::tick::{Input, KeptLane, State};
 use crate::tick_cases::{
-    counted, distinct, fixed, fresh, in_demand, short_timings, with_timings, Setting, DARK, DECIDE, GREEN, NONE, POLL, RESPONSIVE,
+    counted, distinct, fixed, fresh, in_demand, short_timings, times, with_timings, Setting, DARK, DECIDE, GREEN, NONE, POLL, RESPONSIVE,
 };
 use crate::wanted::Command;
 
@@ -31,10 +31,12 @@ fn run(ops: &[Op]) -> Vec<u8> {
 
 // The call in each interval of `distinct`.
 
-/// The time of an interval; of those without one, some time.
+/// The time that an interval runs whatever is wanted; of those without one, some time.
 fn time(interval: u16) -> u16 {
-    let times = [50, 40, 40, 11, 13, 17, 19, 40, 40, 23];
-    times[interval as usize]
+    match times(interval)[..] {
+        [time] => time,
+        _ => 40,
+    }
 }
 
 /// From the first, a middle and the last tick of each interval up to where the group is held and beyond; then the call ends, under each
@@ -207,7 +209,7 @@ fn period_within() -> Vec<u8> {
         input
     };
     let call = |count| Op::Ticks(count, input(1));
-    // the call holds green from power-up's dark on; then one that begins at a period's last tick, in metering
+    // a call from tick 61 on holds green over a period's end; then one that begins at a period's last tick, in metering
     let ops = [
         ticks(60, GREEN),
         call(239),
@@ -269,7 +271,7 @@ fn longest_ways() -> Vec<Vec<u8>> {
 pub struct Calls {
     /// Percent.
     coming: u64,
-    maximum_green: u16,
+    maximum_premetering: u16,
     /// Ticks of the present call that are still to come.
     left: u16,
 }
@@ -277,7 +279,7 @@ pub struct Calls {
 impl Calls {
     /// Where they come, one comes with this chance at each step.
     pub fn new(r: &mut Random, s: &Setting, coming: u64) -> Calls {
-        Calls { coming: r.pick(&[0, coming]), maximum_green: 600 * s.site.timings[12], left: 0 }
+        Calls { coming: r.pick(&[0, coming]), maximum_premetering: 600 * s.site.timings[12], left: 0 }
     }
 
     /// A tick, a moment, up to some hundred ticks, or longer than a pre-metering green may last.
@@ -286,7 +288,7 @@ impl Calls {
             0 | 1 => 1,
             2..=4 => r.number(2, 30),
             5..=8 => r.number(31, 400),
-            _ => self.maximum_green + r.number(1, 300),
+            _ => self.maximum_premetering + r.number(1, 300),
         }
     }
 

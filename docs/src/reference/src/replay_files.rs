@@ -43,7 +43,7 @@ pub fn ticks() -> String {
     lines[420..460].iter_mut().for_each(|line| line.commands[0] = [3, 1200, 0]);
     lines[450..480].iter_mut().for_each(|line| line.commands[1] = [4, 300, 2]);
     // a fire truck: closing, shutdown red, pre-metering green, and the startup begins when it has gone
-    lines[500..560].iter_mut().for_each(|line| line.preemption = 1);
+    lines[455..560].iter_mut().for_each(|line| line.preemption = 1);
     // on a holiday in the evening the plan's dark
     lines[600..].iter_mut().for_each(|line| line.clock = [2024, 7, 4, 702_000 + line.clock[3] % 100]);
     // refused: the date, the tenth, a sample of each kind, a command, and preemption while a call is on

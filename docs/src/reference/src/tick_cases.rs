@@ -162,7 +162,7 @@ pub fn distinct() -> Site {
 }
 
 /// The times that end each interval of `distinct`.
-fn times(interval: u16) -> Vec<u16> {
+pub fn times(interval: u16) -> Vec<u16> {
     match interval {
         0 => vec![50],
         2 => vec![29, 600],
