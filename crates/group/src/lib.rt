@@ -6,7 +6,6 @@ mod range;
 
 ghost use mathlib.Core.Path.{_≡_};
 ghost use Rattle.group.specs.Group.{allRed, intervalOf, lanesIn, releasedIn, groupOf, movedOf};
-ghost use Rattle.group.specs.Steered.{Steered};
 pub use indication::Indications;
 pub use indication::all_dark;
 pub use indication::shown;
@@ -114,8 +113,7 @@ pub fn tick(
     samples: Metered,
     g: Group,
 ) -> Moved
-    ensures is { λ r. ⌜ r ≡ movedOf t preemption wish cycle samples g ⌝ }
-    ensures steered { λ r. ⌜ Steered t preemption wish g (r .group .interval) ⌝ }
+    ensures { λ r. ⌜ r ≡ movedOf t preemption wish cycle samples g ⌝ }
 {
     let now = interval_of(t, preemption, wish, g);
     let standing = g.lanes;

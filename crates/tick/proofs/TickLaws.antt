@@ -22,6 +22,9 @@ use Rattle.release.specs.Cycle.{cycleTicks}
 use Rattle.release.proofs.CycleLaws.{cycle-most, cycle-least, no-cycle}
 use Rattle.group.specs.Intervals.{fromMetering}
 use Rattle.group.specs.Preemption.{steeredWish}
+use Rattle.group.specs.Group.{groupOf, movedWith, movedOf}
+use Rattle.group.specs.Steered.{Steered}
+use Rattle.group.proofs.PreemptionLaws.{steered}
 use Rattle.group.proofs.RangeLaws.{moved-good, moved-released}
 use Rattle.state.specs.declared.State.{State}
 use Rattle.state.specs.State.{stateSpoilt}
@@ -109,3 +112,9 @@ module _ (x : Site) (s : State) (i : Input) (a : Accepted x s i) where
         periods = periods-released (s .periods) (i .lanes) (i .main) n m _ (g .periods) (a .samples)
             (moved-released (timingsOf x) (i .preemption) wish (cycleIn x s i) (i .lanes) (s .group) h (g .group));
       }
+
+-- Its interval is that of the request's words, under the wish that it gives.
+pub tick-steered : (x : Site) (s : State) (i : Input)
+    → Steered (timingsOf x) (i .preemption) (acceptedTick x s i .decision .wish) (s .group) (acceptedTick x s i .state .group .interval)
+unfolding acceptedTick movedIn movedOf movedWith groupOf
+tick-steered x s i = steered (timingsOf x) (i .preemption) (decidedIn x s i .wish) (s .group)

@@ -2,9 +2,10 @@
 ghost use mathlib.Core.Path.{_≡_};
 ghost use Prim.Native.Nat.{_≤_};
 ghost use mathlib.Core.Bool.{false};
-ghost use Rattle.site.specs.Named.{shapeOf};
+ghost use Rattle.site.specs.Named.{timingsOf, shapeOf};
 ghost use Rattle.wanted.specs.Wish.{rateOf};
 ghost use Rattle.release.specs.Cycle.{cycleTicks};
+ghost use Rattle.group.specs.Steered.{Steered};
 ghost use Rattle.state.specs.State.{stateSpoilt};
 ghost use Rattle.tick.specs.Checks.{sampleBad, inputRefusal, tickRefusal};
 ghost use Rattle.tick.specs.Tick.{powerUpOf, acceptedTick, refusedTick, tickOf};
@@ -187,6 +188,7 @@ fn refused(site: Site, state: State, refusal: u8) -> Ticked
 pub fn tick(site: Site, state: State, input: Input) -> Ticked
     ensures is { λ r. ⌜ r ≡ tickOf site state input ⌝ }
     ensures kept { λ r. ⌜ (r .refusal ≡ 0 → stateSpoilt (r .state) (shapeOf site) ≡ false) ⌝ }
+    ensures steered { λ r. ⌜ (r .refusal ≡ 0 → Steered (timingsOf site) (input .preemption) (r .decision .wish) (state .group) (r .state .group .interval)) ⌝ }
     ensures waits { λ _. ⌜ WaitingBound site ⌝ }
     ensures clears { λ _. ⌜ PreemptionClears site ⌝ }
 {

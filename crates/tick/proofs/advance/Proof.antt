@@ -37,7 +37,7 @@ cycled c = c .cycle-of .ensures ∙ rw (c .before .before .before .before .befor
 
 moved : (c : tie.After-tick) → let a = c .before .before .before .before .before .before .before .before .before .before .before .before .args in c .tick .result ≡ movedIn (a .site) (a .state) (a .input)
 unfolding movedIn
-moved c = c .tick .ensures .0 ∙ rw (c .before .before .before .before .before .before .before .before .before .before .before .timings-of .ensures, decided (c .before .before .before), cycled (c .before .before))
+moved c = c .tick .ensures ∙ rw (c .before .before .before .before .before .before .before .before .before .before .before .timings-of .ensures, decided (c .before .before .before), cycled (c .before .before))
 
 is : (c : tie.After-shown) → let a = c .before .before .before .before .before .before .before .before .before .before .before .before .before .before .before .args in
     record {

@@ -1,10 +1,11 @@
 -- The checks, then the refused or the accepted tick.
 use Rattle.tick.specs.declared.Ticked.{Ticked}
 use Rattle.tick.specs.Tick.{refusedTick, tickOf}
+use Rattle.tick.proofs.TickLaws.{tick-steered}
 use Rattle.tick.proofs.WaitingLaws.{waiting-bound}
 use Rattle.tick.proofs.PreemptionLaws.{preemption-clears}
 use borrow.Author.Tests.{ne-eqb, eq-eqb}
-use mathlib.Core.Path.{ap, sym, _∙_}
+use mathlib.Core.Path.{_≡_, ap, sym, _∙_}
 use borrow.Author.Needs.{needs}
 use Rattle.tick.proofs.tick.Statement.{statement}
 use Rattle.tick.proofs.tick.Tie as tie
@@ -18,9 +19,11 @@ refused-requires c κs = search needs
 returns : tie.Need-returns
 unfolding tickOf refusedTick
 returns c =
-    let r = c .before .before in (
+    let r = c .before .before in
+    let never : c .refused .result .refusal ≡ 0 → ⊥ =
+    λ z. c .before .if1 .taken (sym (ap (λ (t : Ticked). t .refusal) (c .refused .ensures)) ∙ z) in (
       rw (← r .refusal-of .ensures, ne-eqb _ _ (c .before .if1 .taken)) (c .refused .ensures),
-      ((λ z. absurd (c .before .if1 .taken (sym (ap (λ (t : Ticked). t .refusal) (c .refused .ensures)) ∙ z))), (waiting-bound _, preemption-clears _)),
+      ((λ z. absurd (never z)), ((λ z. absurd (never z)), (waiting-bound _, preemption-clears _))),
     )
 
 advance-requires : tie.Need-advance-requires
@@ -29,9 +32,16 @@ advance-requires c κs = sym (c .before .refusal-of .ensures) ∙ c .if1 .left
 returns-2 : tie.Need-returns-2
 unfolding tickOf
 returns-2 c =
-    let r = c .before .before in (
+    let r = c .before .before in
+    let a = r .before .args in (
       rw (← r .refusal-of .ensures, eq-eqb _ _ (c .before .if1 .left)) (c .advance .ensures .0),
-      ((λ _. c .advance .ensures .1), (waiting-bound _, preemption-clears _)),
+      (
+        (λ _. c .advance .ensures .1),
+        (
+          (λ _. rw (c .advance .ensures .0) (tick-steered (a .site) (a .state) (a .input))),
+          (waiting-bound _, preemption-clears _),
+        ),
+      ),
     )
 
 pub tick-spec : {M : Type 1} → statement M
