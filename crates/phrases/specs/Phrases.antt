@@ -1,4 +1,4 @@
--- What both programs print.
+-- What the programs print alike.
 use Prim.Native.Nat.{ℕ}
 use mathlib.Core.List.{List, [], _∷_, _++_}
 use lib.ListN.{getD}

@@ -1,5 +1,5 @@
-// What both programs print: a day's name, a number behind a blank, the line of a refused site file,
-// and of what is wrong its trade word and the range that was left.
+// What the programs print alike: a day's name, a number behind a blank, the line of a refused site
+// file, and of what is wrong its trade word and the range that was left.
 mod wrong;
 
 pub use wrong::put_allowed;

@@ -1,10 +1,13 @@
--- What is rounded up: cycles and offsets.
+-- What is rounded: cycles to the nearest, offsets up.
 use Prim.Native.Nat.{ℕ, _+_, _-_, _*_, _/_, _≤_, _<_}
 use mathlib.Core.Path.{_≡_, refl}
 use native.Mathlib.Omega.{arith}
-use native.Mathlib.Nat.{add-mul, one-mul, mul-one, mul-le-mul-left, div-lt-iff-lt-mul, le-div-iff-mul-le, div-mul-le-self}
+use native.Mathlib.Nat.{add-mul, one-mul, mul-one, mul-le-mul-left, lt-of-mul-lt-mul-right, div-lt-iff-lt-mul, le-div-iff-mul-le}
+use native.Mathlib.Nat.{div-mul-le-self}
 use borrow.Author.Tests.{ne-eqb}
-use Rattle.release.specs.Cycle.{roundedUp, cycleTicks, offsetTicks}
+use Rattle.release.specs.Cycle.{toNearest, cycleTicks, roundedUp, offsetTicks}
+use Rattle.release.specs.Nearest.{Nearest}
+use Rattle.release.proofs.NearestLaws.{nearest, not-above, not-below}
 
 module _ (b : ℕ) (h : 1 ≤ b) where
   up-is : (a : ℕ) → roundedUp a b ≡ (a + (b - 1)) / b
@@ -30,17 +33,29 @@ module _ (b : ℕ) (h : 1 ≤ b) where
       let above : (a + (b - 1)) / b * b ≤ c + (b - 1) = omega (arith, div-mul-le-self (a + (b - 1)) b) in
       rw (up-is a, up-is c) (le-div-iff-mul-le pos .1 above)
 
--- A cycle lies between 1 and 720 ticks, at rates of 150 and more and up to 3 vehicles per green.
-pub cycle-most : (vehicles rate : ℕ) → vehicles ≤ 3 → 150 ≤ rate → cycleTicks vehicles rate ≤ 720
-unfolding cycleTicks
-cycle-most v rate h l = up-most rate (omega arith) (36000 * v) 720 (omega arith)
+module _ (vehicles rate : ℕ) where
+  -- The cycle is the nearest, a half going up: for every rate but 0, and so for every rate of 150 to 1800.
+  pub cycle-nearest : 1 ≤ rate → Nearest (36000 * vehicles) rate (cycleTicks vehicles rate)
+  unfolding cycleTicks
+  cycle-nearest h = nearest (36000 * vehicles) rate h
 
-pub cycle-least : (vehicles rate : ℕ) → 1 ≤ vehicles → 1 ≤ rate → 1 ≤ cycleTicks vehicles rate
-unfolding cycleTicks
-cycle-least v rate h l = up-least rate l (36000 * v) (omega arith)
+  -- It lies in 20 to 720 ticks, at rates of 150 to 1800 and 1 to 3 vehicles per green.
+  pub cycle-most : vehicles ≤ 3 → 150 ≤ rate → cycleTicks vehicles rate ≤ 720
+  cycle-most h l =
+      let c = cycleTicks vehicles rate in
+      let above = not-above (36000 * vehicles) rate (omega arith) c (cycle-nearest (omega arith)) in
+      let p : c * rate < 721 * rate = omega arith in
+      omega (arith, lt-of-mul-lt-mul-right rate p)
+
+  pub cycle-least : 1 ≤ vehicles → 1 ≤ rate → rate ≤ 1800 → 20 ≤ cycleTicks vehicles rate
+  cycle-least h some l =
+      let c = cycleTicks vehicles rate in
+      let below = not-below (36000 * vehicles) rate some c (cycle-nearest some) in
+      let p : 19 * rate < c * rate = omega arith in
+      omega (arith, lt-of-mul-lt-mul-right rate p)
 
 pub no-cycle : (vehicles : ℕ) → cycleTicks vehicles 0 ≡ 0
-unfolding cycleTicks roundedUp
+unfolding cycleTicks toNearest
 no-cycle v = refl
 
 -- The offset is no more than the cycle, and at least 1.

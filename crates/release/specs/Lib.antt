@@ -1,2 +1,3 @@
 pub mod Cycle
+pub mod Nearest
 pub mod Release

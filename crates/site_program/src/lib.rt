@@ -1,5 +1,5 @@
-// What every program does that reads a site file: its argument and its help, its output and its
-// errors.
+// What the programs do alike: their argument and their help, the site file that they are asked for,
+// their output and their errors.
 mod arguments;
 
 pub use arguments::Asked;

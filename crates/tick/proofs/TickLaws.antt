@@ -19,7 +19,7 @@ use Rattle.wanted.specs.declared.wish.Wish.the-variants.{Dark, Green, Metering,
 use Rattle.wanted.specs.Wish.{rateOf}
 use Rattle.wanted.proofs.RateLaws.{WishGood, wish-good, rate-cases}
 use Rattle.release.specs.Cycle.{cycleTicks}
-use Rattle.release.proofs.CycleLaws.{cycle-most, cycle-least, no-cycle}
+use Rattle.release.proofs.CycleLaws.{cycle-nearest, cycle-most, cycle-least, no-cycle}
 use Rattle.group.specs.Intervals.{fromMetering}
 use Rattle.group.specs.Preemption.{steeredWish}
 use Rattle.group.specs.Group.{groupOf, movedWith, movedOf}
@@ -33,6 +33,7 @@ use Rattle.waiting.proofs.LaneRank.{Sound}
 use Rattle.tick.specs.declared.Input.{Input}
 use Rattle.tick.specs.Checks.{sampleBad, inputRefusal, tickRefusal}
 use Rattle.tick.specs.Tick.{countedIn, decidedIn, cycleIn, movedIn, acceptedTick}
+use Rattle.tick.specs.Cycle.{MeteringCycle, Cycled}
 
 pub record Accepted (x : Site) (s : State) (i : Input) : Type 0 where
   pub site : spoiltSite x ≡ false
@@ -72,18 +73,44 @@ sound-timings x ok =
       red = omega (arith, g .red-most);
     }
 
-metering-cycle : (w : Wish) → WishGood w → (vehicles : ℕ) → 1 ≤ vehicles → fromMetering w ≡ 7 → 1 ≤ cycleTicks vehicles (rateOf w)
-metering-cycle Dark g v h e = absurd (omega arith)
-metering-cycle Green g v h e = absurd (omega arith)
-metering-cycle (Metering rate) g v h e = cycle-least v rate h (omega (arith, g .0))
-metering-cycle Clear g v h e = absurd (omega arith)
+-- The cycle of a wish in range.
+module _ (vehicles : ℕ) (one : 1 ≤ vehicles) (three : vehicles ≤ 3) where
+  metering-cycle : (rate : ℕ) → WishGood (Metering rate) → MeteringCycle vehicles rate (cycleTicks vehicles rate)
+  metering-cycle rate g = record {
+    nearest = cycle-nearest vehicles rate (omega (arith, g .0));
+    least = cycle-least vehicles rate one (omega (arith, g .0)) (g .1);
+    most = cycle-most vehicles rate three (g .0);
+  }
+
+  no-metering : (w : Wish) → ((rate : ℕ) → w ≡ Metering rate → ⊥) → cycleTicks vehicles (rateOf w) ≡ 0
+  no-metering Dark f = no-cycle vehicles
+  no-metering Green f = no-cycle vehicles
+  no-metering (Metering rate) f = absurd (f rate refl)
+  no-metering Clear f = no-cycle vehicles
+
+  wish-cycle : (w : Wish) → WishGood w → Cycled vehicles w (cycleTicks vehicles (rateOf w))
+  wish-cycle w g = record { metering = λ rate e. rw e (metering-cycle rate (rw e at g)); other = no-metering w }
+
+  -- Where metering goes on, the wish has a cycle.
+  some-of-wish : (w : Wish) → WishGood w → fromMetering w ≡ 7 → 1 ≤ cycleTicks vehicles (rateOf w)
+  some-of-wish Dark g e = absurd (omega arith)
+  some-of-wish Green g e = absurd (omega arith)
+  some-of-wish (Metering rate) g e = omega (arith, metering-cycle rate g .least)
+  some-of-wish Clear g e = absurd (omega arith)
 
 module _ (x : Site) (s : State) (i : Input) (a : Accepted x s i) where
   wish-in : WishGood (decidedIn x s i .wish)
   unfolding decidedIn
   wish-in = wish-good x (a .site) (i .clock) (i .manual) (i .centre) (countedIn x s i) (a .commands)
 
-  -- Its cycle is 720 ticks at the most, and some where metering goes on.
+  -- Its cycle is the nearest whole tick and lies in 20 to 720 where metering is wished, and is none elsewhere.
+  pub tick-cycle : Cycled (timingsOf x .vehicles) (acceptedTick x s i .decision .wish) (acceptedTick x s i .cycle)
+  unfolding acceptedTick cycleIn
+  tick-cycle =
+      let g = timings-good x (a .site) in
+      wish-cycle (timingsOf x .vehicles) (g .vehicles-least) (g .vehicles-most) (decidedIn x s i .wish) wish-in
+
+  -- At any wish it is 720 ticks at the most, and some where metering goes on.
   pub cycle-in : cycleIn x s i ≤ 720
   unfolding cycleIn
   cycle-in =
@@ -95,9 +122,10 @@ module _ (x : Site) (s : State) (i : Input) (a : Accepted x s i) where
   pub some-cycle : fromMetering (steeredWish (i .preemption) (decidedIn x s i .wish)) ≡ 7 → 1 ≤ cycleIn x s i
   unfolding cycleIn steeredWish
   some-cycle e =
+      let g = timings-good x (a .site) in
       by-test (eqb (i .preemption) 1)
       (λ p. let y : fromMetering Clear ≡ 7 = rw p at e in absurd (omega arith))
-      (λ p. metering-cycle (decidedIn x s i .wish) wish-in (timingsOf x .vehicles) (timings-good x (a .site) .vehicles-least) (rw p at e))
+      (λ p. some-of-wish (timingsOf x .vehicles) (g .vehicles-least) (g .vehicles-most) (decidedIn x s i .wish) wish-in (rw p at e))
 
   pub tick-keeps : StateGood (acceptedTick x s i .state) (shapeOf x)
   unfolding acceptedTick movedIn countedIn

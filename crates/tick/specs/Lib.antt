@@ -1,5 +1,6 @@
 pub mod Checks
 pub mod Tick
+pub mod Cycle
 pub mod Course
 pub mod Waiting
 pub mod Preemption

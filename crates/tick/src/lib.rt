@@ -9,6 +9,7 @@ ghost use Rattle.group.specs.Steered.{Steered};
 ghost use Rattle.state.specs.State.{stateSpoilt};
 ghost use Rattle.tick.specs.Checks.{sampleBad, inputRefusal, tickRefusal};
 ghost use Rattle.tick.specs.Tick.{powerUpOf, acceptedTick, refusedTick, tickOf};
+ghost use Rattle.tick.specs.Cycle.{Cycled};
 ghost use Rattle.tick.specs.Waiting.{WaitingBound};
 ghost use Rattle.tick.specs.Preemption.{PreemptionClears};
 use calendar::Clock;
@@ -189,6 +190,7 @@ pub fn tick(site: Site, state: State, input: Input) -> Ticked
     ensures is { λ r. ⌜ r ≡ tickOf site state input ⌝ }
     ensures kept { λ r. ⌜ (r .refusal ≡ 0 → stateSpoilt (r .state) (shapeOf site) ≡ false) ⌝ }
     ensures steered { λ r. ⌜ (r .refusal ≡ 0 → Steered (timingsOf site) (input .preemption) (r .decision .wish) (state .group) (r .state .group .interval)) ⌝ }
+    ensures cycled { λ r. ⌜ (r .refusal ≡ 0 → Cycled (timingsOf site .vehicles) (r .decision .wish) (r .cycle)) ⌝ }
     ensures waits { λ _. ⌜ WaitingBound site ⌝ }
     ensures clears { λ _. ⌜ PreemptionClears site ⌝ }
 {

@@ -16,7 +16,7 @@ use Rattle.group.specs.Intervals.{ageOf, timeOf, successorOf, nextInterval}
 use Rattle.group.specs.Range.{colourSpoilt, laneSpoilt, laneKept, laneSpoiltAt, lanesSpoilt, groupSpoilt}
 use Rattle.lanes.specs.Intervals.{riseOf, passagesOf, greenEnds, greenAt, yellowAt, laneTick}
 use Rattle.lanes.specs.Lanes.{laneOf, lanesOf, laneTickAt, lanesTick, laneEntered, lanesEntered}
-use Rattle.release.specs.Cycle.{roundedUp, cycleTicks, offsetTicks}
+use Rattle.release.specs.Cycle.{toNearest, cycleTicks, roundedUp, offsetTicks}
 use Rattle.release.specs.Release.{isReady, readyAt, anyGreen, mayRelease, releasedOf, greenIf, releaseOf}
 use Rattle.turns.specs.Turn.{nextOf}
 use Rattle.period.specs.Counting.{speedOf, timedOf, laneCounted, laneCountedAt, passagesAt, countedOf, nextSerial, closedOf, afterTick, greensAt, greenCounted, afterRelease}
@@ -41,5 +41,5 @@ use Rattle.levels.specs.Levels.{reachesOf, isSlow, isMet}
 
 -- To unfold this is to unfold what its line names.
 unfoldable pub computing : Unit {0}
-unfolding clearingTicks clears isPreMetering isHeld steeredWish ordinaryInterval sampleBad callBad isWaiting waitingBound turnTicks atPowerUp answerTo isAccepted onward greenBegins allDark cycleTicks roundedUp dayTypeOf isDate daysBefore monthLength dayNumber weekdayOf inMonth todayOf monthBefore yesterdayOf isFloating inWeek isFixed isNamed measuresOf totalsOf goodOf isMet reachesOf isSlow wordsOf readOf sectionOf isGood rangeOf timingRange isWithin stateAfter answerAt releasesFrom releases inputRefusal tickRefusal timingsOf powerUpOf countedIn decidedIn cycleIn movedIn acceptedTick refusedTick tickOf stateSpoilt freshState allRed intervalOf lanesIn releasedIn groupOf lanesMoved movedWith movedOf colourShown lowerShown signShown laneShown indicationsOf ageOf timeOf successorOf nextInterval colourSpoilt laneSpoilt laneKept laneSpoiltAt lanesSpoilt groupSpoilt riseOf passagesOf greenEnds greenAt yellowAt laneTick laneOf lanesOf laneTickAt lanesTick laneEntered lanesEntered offsetTicks isReady readyAt anyGreen mayRelease nextOf releasedOf greenIf releaseOf speedOf timedOf laneCounted laneCountedAt passagesAt countedOf nextSerial closedOf afterTick greensAt greenCounted afterRelease noPeriods countsLaneSpoilt countsLaneKept countsLaneSpoiltAt meteredSpoilt meteredKept meteredSpoiltAt countsSpoilt lastTicks periodsSpoilt dayOf entryInForce commandInForce decisionOf plannedOf sourceOf choiceOf meteredBad laneBad samplesBad carriesNothing commandBad commandsBad clockBad spoiltOf spoiltSite rateRange tableRange
+unfolding clearingTicks clears isPreMetering isHeld steeredWish ordinaryInterval sampleBad callBad isWaiting waitingBound turnTicks atPowerUp answerTo isAccepted onward greenBegins allDark toNearest cycleTicks roundedUp dayTypeOf isDate daysBefore monthLength dayNumber weekdayOf inMonth todayOf monthBefore yesterdayOf isFloating inWeek isFixed isNamed measuresOf totalsOf goodOf isMet reachesOf isSlow wordsOf readOf sectionOf isGood rangeOf timingRange isWithin stateAfter answerAt releasesFrom releases inputRefusal tickRefusal timingsOf powerUpOf countedIn decidedIn cycleIn movedIn acceptedTick refusedTick tickOf stateSpoilt freshState allRed intervalOf lanesIn releasedIn groupOf lanesMoved movedWith movedOf colourShown lowerShown signShown laneShown indicationsOf ageOf timeOf successorOf nextInterval colourSpoilt laneSpoilt laneKept laneSpoiltAt lanesSpoilt groupSpoilt riseOf passagesOf greenEnds greenAt yellowAt laneTick laneOf lanesOf laneTickAt lanesTick laneEntered lanesEntered offsetTicks isReady readyAt anyGreen mayRelease nextOf releasedOf greenIf releaseOf speedOf timedOf laneCounted laneCountedAt passagesAt countedOf nextSerial closedOf afterTick greensAt greenCounted afterRelease noPeriods countsLaneSpoilt countsLaneKept countsLaneSpoiltAt meteredSpoilt meteredKept meteredSpoiltAt countsSpoilt lastTicks periodsSpoilt dayOf entryInForce commandInForce decisionOf plannedOf sourceOf choiceOf meteredBad laneBad samplesBad carriesNothing commandBad commandsBad clockBad spoiltOf spoiltSite rateRange tableRange
 computing = tt

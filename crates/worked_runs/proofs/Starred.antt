@@ -1,4 +1,4 @@
--- The runs marked * of document 01: all by computation.
+-- The runs marked * of document 01, with document 02's cycles: all by computation.
 use mathlib.Core.Path.{refl}
 use Rattle.worked_runs.specs.Starred.{Starred}
 use Rattle.worked_runs.proofs.Computing.{computing}
@@ -9,6 +9,7 @@ starred = record {
   cycle-600 = refl;
   cycle-700 = refl;
   cycle-150 = refl;
+  cycle-1600 = refl;
   fourth-thursday = refl;
   day-after = refl;
   not-the-fourth-friday = refl;

@@ -1,4 +1,6 @@
 pub mod SiteA
 pub mod Run
+pub mod TwoLanes
 pub mod Starred
 pub mod Preemption
+pub mod NearestCycle

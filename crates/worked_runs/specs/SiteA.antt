@@ -17,10 +17,10 @@ siteWith lanes mode = record {
   tables = replicate 120 0;
 }
 
--- Two lanes, with this maximum green and yellow, every other timing at its least.
-abbrev pub leastWith : ℕ → ℕ → ℕ → Site
-leastWith maxgreen yellow mode = record {
-  timings = 2 ∷ mode ∷ 1 ∷ 10 ∷ maxgreen ∷ yellow ∷ 10 ∷ 10 ∷ 10 ∷ 10 ∷ 10 ∷ 10 ∷ 1 ∷ 1 ∷ 1 ∷ [];
+-- So many lanes, in a service mode, with these vehicles per green, maximum green and yellow; every other timing at its least.
+abbrev pub leastOf : ℕ → ℕ → ℕ → ℕ → ℕ → Site
+leastOf lanes mode vehicles maxgreen yellow = record {
+  timings = lanes ∷ mode ∷ vehicles ∷ 10 ∷ maxgreen ∷ yellow ∷ 10 ∷ 10 ∷ 10 ∷ 10 ∷ 10 ∷ 10 ∷ 1 ∷ 1 ∷ 1 ∷ [];
   entries = 0;
   plan = replicate 80 0;
   holidays = 0;
@@ -31,11 +31,11 @@ leastWith maxgreen yellow mode = record {
 
 -- Two lanes, every timing at its least.
 abbrev pub leastSite : ℕ → Site
-leastSite = leastWith 10 10
+leastSite mode = leastOf 2 mode 1 10 10
 
 -- The longest greens and yellows.
 abbrev pub slowSite : Site
-slowSite = leastWith 100 60 0
+slowSite = leastOf 2 0 1 100 60
 
 abbrev pub siteA : Site
 siteA = siteWith 2 0

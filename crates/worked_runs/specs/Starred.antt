@@ -1,8 +1,9 @@
--- Document 01, 'Worked runs': the runs marked *, in the definitions that the calls' contracts cite. One proof, `starred`, shows them all.
+-- Document 01, 'Worked runs': the runs marked *, with the cycles that document 02's A2 gives, in the definitions that the calls' contracts
+-- cite. One proof, `starred`, shows them all.
 use Prim.Native.Nat.{ℕ}
 use mathlib.Core.Path.{_≡_}
 use mathlib.Core.Bool.{true, false}
-use mathlib.Core.List.{List, [], _∷_, _++_}
+use mathlib.Core.List.{[], _∷_, _++_}
 use lib.ListN.{length, take, replicate}
 use Rattle.site.specs.Reading.{refused, readOf}
 use Rattle.site.specs.Writing.{bytesOf}
@@ -15,11 +16,11 @@ use Rattle.levels.specs.Levels.{isMet}
 use Rattle.release.specs.Cycle.{cycleTicks}
 use Rattle.waiting.specs.Bound.{waitingBound}
 use Rattle.site.specs.Named.{timingsOf}
-use Rattle.tick.specs.declared.Input.{Input}
-use Rattle.tick.specs.Course.{Call, Course, atPowerUp, courseAfter, acceptedTicks}
+use Rattle.tick.specs.Course.{atPowerUp, courseAfter, acceptedTicks}
 use Rattle.tick.specs.Waiting.{beginsWithin}
 use Rattle.worked_runs.specs.SiteA.{siteWith, leastSite, siteA, siteAWithOffset}
-use Rattle.worked_runs.specs.Run.{meteringAt, metering600, answerAt, releases, waitsThroughout, calls}
+use Rattle.worked_runs.specs.Run.{metering600, answerAt, releases, waitsThroughout, calls}
+use Rattle.worked_runs.specs.TwoLanes.{releasedLast, thenBoth}
 
 abbrev pub date : ℕ → ℕ → ℕ → Date
 date year month day = record { year = year; month = month; day = day }
@@ -40,23 +41,12 @@ threeLanes a b c = record {
 abbrev pub flowLevel : ℕ → Level
 flowLevel flow = record { table = 1; flow = flow; occupancy = 65535; speed = 65535; rate = 600 }
 
--- Metering at 879, a cycle of 41, with these demands.
-abbrev pub at879 : List ℕ → Input
-at879 demand = meteringAt 879 demand
-
--- Lane 2 alone in demand until its release, at tick 102.
-abbrev pub releasedLast : ℕ → Course
-releasedLast mode = courseAfter (atPowerUp (leastSite mode)) (calls (leastSite mode) (at879 (0 ∷ 1 ∷ 0 ∷ 0 ∷ [])) 102)
-
--- 40 ticks more of that, and then lane 1's demand too: 62 ticks.
-abbrev pub thenBoth : ℕ → List Call
-thenBoth mode = calls (leastSite mode) (at879 (0 ∷ 1 ∷ 0 ∷ 0 ∷ [])) 40 ++ calls (leastSite mode) (at879 (1 ∷ 1 ∷ 0 ∷ 0 ∷ [])) 22
-
 pub record Starred : Type 0 where
-  -- "Rate 600, V 1: cycle 60; 700: 52; 150 with V 3: 720."
+  -- "Rate 600, V 1: cycle 60; .. 150 with V 3: 720." Document 02, A2: "700 with V 1 gives 51, 1600 gives 23."
   pub cycle-600 : cycleTicks 1 600 ≡ 60
-  pub cycle-700 : cycleTicks 1 700 ≡ 52
+  pub cycle-700 : cycleTicks 1 700 ≡ 51
   pub cycle-150 : cycleTicks 3 150 ≡ 720
+  pub cycle-1600 : cycleTicks 1 1600 ≡ 23
   -- "28 November 2024 is fourth Thursday, 29 its day after. 26 May 2025 is final Monday."
   pub fourth-thursday : dayTypeOf (date 2024 11 28) (2 ∷ 11 ∷ 4 ∷ 4 ∷ []) 1 ≡ 7
   pub day-after : dayTypeOf (date 2024 11 29) (3 ∷ 11 ∷ 4 ∷ 4 ∷ []) 1 ≡ 7
@@ -95,14 +85,14 @@ pub record Starred : Type 0 where
   pub bound-of-one-lane : waitingBound (timingsOf (siteWith 1 0)) 60 ≡ 60
   pub in-time : beginsWithin 1 60 (courseAfter (atPowerUp (siteWith 1 0)) (calls (siteWith 1 0) metering600 311)) (calls (siteWith 1 0) metering600 60) ≡ true
   pub no-tick-to-spare : beginsWithin 1 59 (courseAfter (atPowerUp (siteWith 1 0)) (calls (siteWith 1 0) metering600 311)) (calls (siteWith 1 0) metering600 60) ≡ false
-  -- So is the turn of the other lane, in both service modes: with a cycle of 41, lane 2, released at tick 102 and waiting ever since, is ready
-  -- at 143; there lane 1's demand comes, whose turn is first. Lane 2 is released at 153, when lane 1's green has ended, or at 164, half a
-  -- cycle rounded up after it: the run's 51st tick, or its 62nd, and the bound's last.
-  pub two-waiting : waitsThroughout 2 41 (releasedLast 0) (thenBoth 0) ≡ true
+  -- So is the turn of the other lane, in both service modes: at 879, a cycle of 41, lane 2, released at tick 102 and waiting ever since, is
+  -- ready at 143; there lane 1's demand comes, whose turn is first. Lane 2 is released at 153, when lane 1's green has ended, or at 164,
+  -- half a cycle rounded up after it: the run's 51st tick, or its 62nd, and the bound's last.
+  pub two-waiting : waitsThroughout 2 41 (releasedLast 879 0) (thenBoth 879 0 40 22) ≡ true
   pub bound-of-two-lanes : waitingBound (timingsOf (leastSite 0)) 41 ≡ 51
-  pub two-in-time : beginsWithin 2 51 (releasedLast 0) (thenBoth 0) ≡ true
-  pub two-no-tick-to-spare : beginsWithin 2 50 (releasedLast 0) (thenBoth 0) ≡ false
-  pub two-waiting-with-offset : waitsThroughout 2 41 (releasedLast 1) (thenBoth 1) ≡ true
+  pub two-in-time : beginsWithin 2 51 (releasedLast 879 0) (thenBoth 879 0 40 22) ≡ true
+  pub two-no-tick-to-spare : beginsWithin 2 50 (releasedLast 879 0) (thenBoth 879 0 40 22) ≡ false
+  pub two-waiting-with-offset : waitsThroughout 2 41 (releasedLast 879 1) (thenBoth 879 1 40 22) ≡ true
   pub bound-of-two-with-offset : waitingBound (timingsOf (leastSite 1)) 41 ≡ 62
-  pub two-with-offset-in-time : beginsWithin 2 62 (releasedLast 1) (thenBoth 1) ≡ true
-  pub two-with-offset-no-tick-to-spare : beginsWithin 2 61 (releasedLast 1) (thenBoth 1) ≡ false
+  pub two-with-offset-in-time : beginsWithin 2 62 (releasedLast 879 1) (thenBoth 879 1 40 22) ≡ true
+  pub two-with-offset-no-tick-to-spare : beginsWithin 2 61 (releasedLast 879 1) (thenBoth 879 1 40 22) ≡ false

@@ -8,7 +8,7 @@ use Rattle.tick.proofs.cycle_of.Statement.{statement}
 use Rattle.tick.proofs.cycle_of.Tie as tie
 
 is : (c : tie.After-cycle-ticks) → c .cycle-ticks .result ≡ cycleTicks (c .before .before .args .vehicles) (rateOf (c .before .before .args .wish))
-is c = c .cycle-ticks .ensures ∙ rw (c .before .rate-of .ensures)
+is c = c .cycle-ticks .ensures .0 ∙ rw (c .before .rate-of .ensures)
 
 rate-of-requires : tie.Need-rate-of-requires
 rate-of-requires c κs = search needs

@@ -1,6 +1,7 @@
 //! The stored cases of `crates/call_cases`.
 
 use crate::cases;
+use crate::nearest_cases;
 use crate::preemption_cases;
 use crate::random::Random;
 use crate::refusal_cases;
@@ -11,6 +12,6 @@ const DECISIONS: usize = 3500;
 
 pub fn cases() -> Vec<Vec<u8>> {
     let mut r = Random::new(SEED);
-    let named = [preemption_cases::cases(), refusal_cases::cases()].concat();
+    let named = [preemption_cases::cases(), nearest_cases::cases(), refusal_cases::cases()].concat();
     [tick_cases::cases(&mut r), named, cases::cases(&mut r, DECISIONS)].concat()
 }

@@ -19,7 +19,7 @@ use crate::site::{self, Site};
 use crate::tally::Tally;
 use crate::text;
 use crate::tick::{self, state_spoilt, Answer, Input, KeptLane, State, NOTHING_DECIDED};
-use crate::wanted::{cycle, Command, Wish};
+use crate::wanted::{cycle, half_goes_up, Command, Wish};
 use std::fmt::Write;
 
 #[derive(Clone, Debug)]
@@ -214,6 +214,8 @@ impl Run<'_> {
             self.tally.count("lanes released", (answer.released != 0) as u64);
             self.state = answer.state;
             self.watch_call(answer.refusal, input.preemption);
+            let half = self.goes_up(answer.decision.wish);
+            self.tally.count("ticks whose cycle is a half going up", half);
             let line = tick_line(&answer);
             if line != before || answer.released != 0 {
                 writeln!(self.out, "{number} {line}").unwrap();
@@ -222,6 +224,11 @@ impl Run<'_> {
             input.clock.tenth = input.clock.tenth.wrapping_add(1);
         }
         self.print_state();
+    }
+
+    /// 1 where the wish has a cycle that is a half going up; where something is refused it has none.
+    fn goes_up(&self, wish: Wish) -> u64 {
+        self.site.as_ref().is_some_and(|site| half_goes_up(site, wish)) as u64
     }
 
     fn watch_call(&mut self, refusal: u8, preemption: u16) {
@@ -274,6 +281,8 @@ impl Run<'_> {
             _ => 0,
         };
         self.tally.count("decisions", 1);
+        let half = self.goes_up(decision.wish);
+        self.tally.count("decisions whose cycle is a half going up", half);
         self.tally.refused(refusal);
         writeln!(self.out, "decide {refusal} {} {cycle}", text::decision(&decision)).unwrap();
     }

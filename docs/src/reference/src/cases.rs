@@ -95,8 +95,28 @@ fn rows(r: &mut Random, most: u16) -> u16 {
     }
 }
 
+/// The rates at which 36000 × V ÷ rate ends in a half, of V 1, 2 and 3.
+pub const HALVES: [&[u16]; 3] = [&[192, 320, 576, 960, 1600], &[384, 640, 1152], &[192, 320, 576, 960, 1600, 1728]];
+
+/// One in four is a rate of `HALVES` above the lowest, or one right beside it; else it is the other one.
+fn half_or(r: &mut Random, low: u16, other: u16) -> u16 {
+    if !r.percent(25) {
+        return other;
+    }
+    let halves: Vec<u16> = HALVES.concat().into_iter().filter(|half| *half > low).collect();
+    r.pick(&halves) + r.pick(&[0, 1, 1, 2]) - 1
+}
+
+/// A rate of at least so many vehicles.
+pub fn rate_from(r: &mut Random, low: u16) -> u16 {
+    let any = r.number(low, 1800);
+    half_or(r, low, any)
+}
+
+/// The same, from the lowest on, often the lowest or the highest.
 pub fn rate(r: &mut Random) -> u16 {
-    r.edged(150, 1800)
+    let any = r.edged(150, 1800);
+    half_or(r, 150, any)
 }
 
 /// The rate and the table of a mode.

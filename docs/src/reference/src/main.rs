@@ -1,4 +1,5 @@
-//! Document 01 in plain Rust, with the preemption of document 02. `reference NAME` writes test inputs and what they should give:
+//! Document 01 in plain Rust, with the preemption and the nearest cycle of document 02. `reference NAME` writes test inputs and what they
+//! should give:
 //!
 //! - `site-bounds stdin`, `site-bounds stdout`: the files of `crates/site_bounds`.
 //! - `call-cases stdin`, `call-cases stdout`: the files of `crates/call_cases`.
@@ -14,6 +15,7 @@
 //! - `replay-ticks`: the ticks of `crates/replay`.
 //! - `replay-cases stdin`, `replay-cases stdout`: the runs of `crates/replay_cases`, and what it prints.
 //! - `replay-files FOLDER`: the files that it reads.
+//! - `rate-sheet`: what `crates/rate_sheet` prints.
 //! - `paper-site`: the site file of `crates/timetable`.
 //! - `timetable-cases stdout`: what `crates/timetable_cases` prints.
 //! - `timetable-files FOLDER`: the files that it reads.
@@ -26,6 +28,7 @@ mod diagnosis;
 mod files;
 mod group;
 mod lanes;
+mod nearest_cases;
 mod output;
 mod periods;
 mod poll;
@@ -34,6 +37,7 @@ mod preemption_cases;
 mod random;
 mod random_cases;
 mod random_replay;
+mod rate_sheet;
 mod record;
 mod refusal_cases;
 mod replay;
@@ -161,6 +165,7 @@ fn main() -> Result<()> {
         ["replay-cases", "stdin"] => out.write_all(replay_files::list().as_bytes()),
         ["replay-cases", "stdout"] => out.write_all(replay_files::answers().as_bytes()),
         ["replay-files", folder] => replay_files::write(folder),
+        ["rate-sheet"] => out.write_all(rate_sheet::print().as_bytes()),
         ["paper-site"] => out.write_all(&site::bytes(&timetable_files::paper())),
         ["timetable-cases", "stdout"] => out.write_all(timetable_files::answers().as_bytes()),
         ["timetable-files", folder] => timetable_files::write(folder),

@@ -99,7 +99,7 @@ fn any_state(r: &mut Random, s: &Setting) -> State {
 }
 
 pub fn sound_input(r: &mut Random, s: &Setting) -> Input {
-    let mut input = quiet(if r.percent(75) { fixed(r.number(150, 1800)) } else { command(r, s, 40) });
+    let mut input = quiet(if r.percent(75) { fixed(cases::rate_from(r, 150)) } else { command(r, s, 40) });
     input.clock = jump(r, s);
     samples(r, s, 6, &mut input);
     input.preemption = r.percent(25) as u16;

@@ -170,6 +170,7 @@ pub fn answer(run: &Run, tally: &mut Tally) -> Replayed {
     let said = replay::print(&run.file, "site.bin", &run.ticks);
     let first_words = said.output.lines().filter_map(|line| line.split(' ').next());
     tally.count("replayed ticks", first_words.filter(|word| word.parse::<u32>().is_ok()).count() as u64);
+    tally.count("replayed ticks whose cycle is a half going up", said.halves);
     tally.count("replays that end at a line that is no tick", said.output.contains(" is no tick: ") as u64);
     tally.count("replays with something refused", !said.explanation.is_empty() as u64);
     tally.count("replays", 1);

@@ -8,13 +8,15 @@ use crate::site::{self, Site};
 use crate::text;
 use crate::tick::{poll_record, power_up, tick, Answer, Input};
 use crate::tick_diagnosis;
-use crate::wanted::lanes;
+use crate::wanted::{half_goes_up, lanes};
 
-/// What a run writes: on standard output, and on standard error the line that explains what was refused, if anything was. With its calls.
+/// What a run writes: on standard output, and on standard error the line that explains what was refused, if anything was. With its calls,
+/// and how many of its ticks have a cycle that is a half going up.
 pub struct Replayed {
     pub output: String,
     pub explanation: String,
     pub watch: Watch,
+    pub halves: u64,
 }
 
 const HEADING: &str = "tick refusal interval age lanes lower sign day entry source level wish rate cycle released\n";
@@ -110,7 +112,7 @@ fn lines(text: &[u8]) -> Vec<&[u8]> {
 /// What a run at a site writes.
 fn run(site: &Site, text: &[u8]) -> Replayed {
     let (_, mut state) = power_up(Some(site));
-    let (mut output, mut explanation, mut watch) = (HEADING.to_string(), String::new(), Watch::default());
+    let (mut output, mut explanation, mut watch, mut halves) = (HEADING.to_string(), String::new(), Watch::default(), 0);
     for (i, line) in lines(text).into_iter().enumerate() {
         let input = match input(site, line) {
             Ok(input) => input,
@@ -128,15 +130,18 @@ fn run(site: &Site, text: &[u8]) -> Replayed {
         if answer.refusal == 0 {
             watch.tick(site, input.preemption, answer.state.interval);
         }
+        halves += half_goes_up(site, answer.decision.wish) as u64;
         state = answer.state;
     }
-    Replayed { output, explanation, watch }
+    Replayed { output, explanation, watch, halves }
 }
 
 /// What the program writes of a site file of that name, and ticks.
 pub fn print(file: &[u8], name: &str, text: &[u8]) -> Replayed {
     match site::read(file) {
         Ok(site) => run(&site, text),
-        Err(refused) => Replayed { output: text::refusal(refused), explanation: diagnosis::of(file, name), watch: Watch::default() },
+        Err(refused) => {
+            Replayed { output: text::refusal(refused), explanation: diagnosis::of(file, name), watch: Watch::default(), halves: 0 }
+        }
     }
 }

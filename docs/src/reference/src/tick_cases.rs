@@ -1,5 +1,6 @@
 //! Stored cases of the tick: the paper's runs, each limit from both sides, states that no run reaches, and long random runs.
-//! The cases are made without the rules: a change of a rule changes what they print, never the cases.
+//! The cases are made without the rules, but for the cycle that some aim at, which is the rate sheet's: a change of another rule changes
+//! what they print, never the cases.
 
 use crate::calendar::{Clock, Date};
 use crate::call_run::{from_power_up, timing, Op};
@@ -8,6 +9,7 @@ use crate::files::site_a;
 use crate::periods::{Counts, Sample};
 use crate::preemption_cases::Calls;
 use crate::random::Random;
+use crate::rate_sheet::nearest;
 use crate::site::{bytes, Site, TIMINGS, UNUSED};
 use crate::tick::{Input, KeptLane, State};
 use crate::wanted::Command;
@@ -26,7 +28,7 @@ pub fn fixed(rate: u16) -> Command {
     Command { kind: 3, rate, table: 0 }
 }
 
-fn at(year: u16, month: u16, day: u16, minute: u32) -> Clock {
+pub fn at(year: u16, month: u16, day: u16, minute: u32) -> Clock {
     Clock { date: Date { year, month, day }, tenth: minute * 600 }
 }
 
@@ -314,8 +316,8 @@ fn turns() -> Vec<u8> {
 /// Red age, cycle counter and offset counter on both sides of their limits; a rate that changes the cycle at once.
 fn release_limits(mode: u16) -> Vec<u8> {
     let mut ops = Vec::new();
-    // at 1100 and V 2 the cycle is 66, its third 22; at 1000 72 and 24; at 1080 67 and 23
-    for (rate, cycle) in [(1100, 66), (1000, 72), (1080, 67)] {
+    // at 1100 and V 2 the cycle is 65, its third 22; at 1000 72 and 24; at 1080 67 and 23; at 1152 63, a half going up, and 21
+    for (rate, cycle) in [(1100, 65), (1000, 72), (1080, 67), (1152, 63)] {
         let third = (cycle + 2) / 3;
         let limits = [
             (14, 720, 720),
@@ -787,7 +789,7 @@ pub fn short_timings(r: &mut Random, k: u16) -> Vec<u16> {
 fn levels(r: &mut Random, tables: u16) -> Vec<[u16; 5]> {
     let used = |r: &mut Random, high| if r.percent(50) { r.edged(1, high) } else { UNUSED };
     (0..r.from(0, 6))
-        .map(|_| [r.number(1, tables), used(r, 3000), used(r, 1000), used(r, 250), r.number(600, 1800)])
+        .map(|_| [r.number(1, tables), used(r, 3000), used(r, 1000), used(r, 250), cases::rate_from(r, 600)])
         .collect()
 }
 
@@ -820,7 +822,7 @@ pub fn command(r: &mut Random, s: &Setting, none: u64) -> Command {
     let kind = r.pick(&[1, 2, 3, 3, 3, 3, 3, 3, 4, 4]);
     let (mut rate, table) = cases::rate_and_table(r, kind - 1, s.tables);
     if rate != 0 && r.percent(60) {
-        rate = r.number(900, 1800);
+        rate = cases::rate_from(r, 900);
     }
     Command { kind, rate, table }
 }
@@ -999,9 +1001,8 @@ pub fn strange_states(r: &mut Random, s: &Setting) -> Vec<u8> {
     let t = &s.site.timings;
     let mut ops = Vec::new();
     for _ in 0..15 {
-        let rate = r.number(150, 1800);
-        let cycle = (36000 * t[2] as u32).div_ceil(rate as u32) as u16;
-        ops.push(Op::State(strange_state(r, t, cycle)));
+        let rate = cases::rate_from(r, 150);
+        ops.push(Op::State(strange_state(r, t, nearest(t[2], rate))));
         let mut input = quiet(if r.percent(75) { fixed(rate) } else { command(r, s, 20) });
         input.clock = jump(r, s);
         let count = r.pick(&[1, 1, 2, 3, 40]);

@@ -1,4 +1,4 @@
-//! 'Day and entry' and 'What is wanted' of document 01.
+//! 'Day and entry' and 'What is wanted' of document 01, and the cycle, to the nearest tick by document 02.
 
 use crate::calendar::{day_type, Clock};
 use crate::periods::{Counts, Periods};
@@ -43,8 +43,21 @@ pub fn lanes(site: &Site) -> (usize, usize) {
     (site.timings[0] as usize, site.timings[14] as usize)
 }
 
+/// Of 36000 × V ÷ rate the nearest whole tick, a half going up.
 pub fn cycle(site: &Site, rate: u16) -> u32 {
-    (36000 * site.timings[2] as u32).div_ceil(rate as u32)
+    let (v, rate) = (site.timings[2] as u32, rate as u32);
+    (2 * 36000 * v + rate) / (2 * rate)
+}
+
+/// Whether 36000 × V ÷ rate ends in a half: half a rate is left over.
+fn ends_in_half(site: &Site, rate: u16) -> bool {
+    let (v, rate) = (site.timings[2] as u32, rate as u32);
+    2 * (36000 * v % rate) == rate
+}
+
+/// Whether the wish is metering, and its cycle a half going up.
+pub fn half_goes_up(site: &Site, wish: Wish) -> bool {
+    matches!(wish, Wish::Metering(rate) if ends_in_half(site, rate))
 }
 
 /// Among today's entries that have started, the latest start, and of equal ones the last filed.

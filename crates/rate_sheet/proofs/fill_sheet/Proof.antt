@@ -1,0 +1,20 @@
+-- The buffer is as long as the sheet, and so the sheet is all of it.
+use Rattle.rate_sheet.proofs.SheetLaws.{whole}
+use denote.Ref.{now}
+use mathlib.Core.Path.{_≡_}
+use borrow.Author.Needs.{needs}
+use lib.ListN.{length}
+use Rattle.rate_sheet.proofs.fill_sheet.Statement.{statement}
+use Rattle.rate_sheet.proofs.fill_sheet.Tie as tie
+
+put-sheet-requires : tie.Need-put-sheet-requires
+put-sheet-requires c κs = search needs
+
+returns : tie.Need-returns
+returns c =
+    let a = c .before .before .args in
+    let l : length (now (a .out)) ≡ 28953 = search needs in
+    whole l (c .put-sheet .ensures)
+
+pub fill-sheet-spec : {M : Type 1} → statement M
+fill-sheet-spec = tie.close (tie.spec put-sheet-requires returns)
