@@ -1,7 +1,14 @@
-# A replay for the eye: `awk -f strip.awk TICKS REPLAY`. The lamps of each lane over time, a letter for half a second (. dark, R red, Y yellow,
-# G green), a line where they stay as they are, and between them what changed; also where a preemption call begins and ends.
+# A replay for the eye: `awk -f strip.awk TICKS REPLAY`. The lamps of each lane over time, a letter for half a second (. dark, R red,
+# Y yellow, G green), a line where they stay as they are, and between them what changed: the entry in force or the day type, what is
+# wanted, a preemption call, the interval. A blank line stands where the clock jumps; midnight is no jump.
 function clock(tenth) {
     return sprintf("%02d:%02d:%04.1f", tenth / 36000, tenth / 600 % 60, tenth % 600 / 10)
+}
+
+# How many days a date is after the last of 1999; every fourth year is leap.
+function day_number(year, month, day) {
+    year -= 2000
+    return 365 * year + int((year + 3) / 4) + before[month] + (month > 2 && year % 4 == 0) + day
 }
 
 # Whether no lane changed its colour since the strip began.
@@ -33,13 +40,15 @@ BEGIN {
     split("initialization|pre-metering dark|pre-metering green|startup warning|startup green|startup yellow|startup red|metering|closing|shutdown red", names, "|")
     split(". dark R red Y yellow G green", pairs, " ")
     for (k = 1; k < 8; k += 2) colour[pairs[k]] = pairs[k + 1]
-    wish = interval = entry = ""
+    split("0 31 59 90 120 151 181 212 243 273 304 334", before, " ")
+    wish = interval = entry = day = ""
     calling = 0
 }
 
 # preemption stands before the two commands of three words each
 FNR == NR {
     tenth[FNR] = $4
+    tenths[FNR] = 864000 * day_number($1, $2, $3) + $4
     preemption[FNR] = $(NF - 6)
     next
 }
@@ -51,17 +60,18 @@ $1 == "poll" { next }
 $1 == "refused" || $1 == "line" { print; exit }
 
 {
-    if ($1 == 1 || tenth[$1] != tenth[$1 - 1] + 1) {
+    if ($1 == 1 || tenths[$1] != tenths[$1 - 1] + 1) {
         flush_strip()
         print ""
     }
     lanes = length($5)
-    if ($9 != entry) say("plan entry " $9 " in force (" $8 ")")
+    if ($9 != entry || $8 != day) say("plan entry " $9 " in force (" $8 ")")
     if ($12 " " $13 != wish) say("wanted: " ($12 == "meter" ? "metering at " $13 ", a green every " $14 / 10 " s" : $12) ($11 > 0 ? ", by level " $11 : ""))
     if (preemption[$1] != calling) say(preemption[$1] == 1 ? "preemption: a fire truck calls" : "preemption ends")
     if ($3 != interval) say("interval " $3 ", " names[$3 + 1])
     calling = preemption[$1]
     entry = $9
+    day = $8
     wish = $12 " " $13
     interval = $3
     if (tenth[$1] % 5 == 0) {

@@ -10,8 +10,7 @@ use Rattle.loops.proofs.Cases.{by-test}
 use Rattle.numbers.specs.Within.{between, isWithin}
 use Rattle.numbers.proofs.WithinLaws.{ends, inside}
 use Rattle.calendar.specs.declared.day.Date.{Date}
-use Rattle.calendar.specs.Dates.{table, isLeap, daysBefore, monthLength, months, isDate, dayNumber, weekdayOf}
-use Rattle.calendar.specs.Days.{monthBefore}
+use Rattle.calendar.specs.Dates.{table, isLeap, daysBefore, monthLength, months, isDate, dateOf, dayNumber, weekdayOf}
 use Rattle.calendar.proofs.Below.{and-left, and-right, below}
 
 -- Days before a month of a year that is leap or not.
@@ -114,6 +113,14 @@ bounds date e =
       day-high = omega (arith, length-most y m (months .1));
     }
 
+-- What holds of all numbers within these bounds holds of every date.
+pub of-bounds : (P : Date → Type 0)
+    → ((y m day : ℕ) → 2000 ≤ y → y ≤ 2099 → 1 ≤ m → m ≤ 12 → 1 ≤ day → day ≤ monthLength y m → P (dateOf y m day))
+    → (date : Date) → isDate date ≡ true → P date
+of-bounds P f date e =
+    let b = bounds date e in
+    f (date .year) (date .month) (date .day) (b .year-low) (b .year-high) (b .month-low) (b .month-high) (b .day-low) (b .day-in-month)
+
 pub number-most : (date : Date) → isDate date ≡ true → dayNumber date < 40000
 unfolding dayNumber
 number-most date e = let b = bounds date e in omega (arith, before-most (date .year) (date .month) (omega arith))
@@ -121,19 +128,3 @@ number-most date e = let b = bounds date e in omega (arith, before-most (date .y
 pub weekday-most : (date : Date) → weekdayOf date ≤ 6
 unfolding weekdayOf
 weekday-most date = omega arith
-
-before-low : (m : ℕ) (first : Bool) → leb m 1 ≡ first → 1 ≤ cond first 12 (m - 1)
-before-low m true e = omega arith
-before-low m false e = omega (arith, leb-false m 1 e)
-
-before-high : (m : ℕ) (first : Bool) → m ≤ 12 → cond first 12 (m - 1) ≤ 12
-before-high m true h = omega arith
-before-high m false h = omega arith
-
-pub month-before-low : (m : ℕ) → 1 ≤ monthBefore m
-unfolding monthBefore
-month-before-low m = before-low m (leb m 1) refl
-
-pub month-before-high : (m : ℕ) → m ≤ 12 → monthBefore m ≤ 12
-unfolding monthBefore
-month-before-high m h = before-high m (leb m 1) h

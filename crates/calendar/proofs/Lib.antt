@@ -1,4 +1,6 @@
 pub mod Below
 pub mod DateLaws
+pub mod DayBefore
+pub mod DayTypeLaws
 pub mod NextDate
 pub mod RowLaws

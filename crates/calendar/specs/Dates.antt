@@ -1,5 +1,5 @@
--- Document 01, 'One tick's input': "year 2000-2099, a true date"; 'Day and entry': "1 January 2000 is a Saturday; every fourth year from 2000
--- is leap."
+-- Document 01, 'One tick's input': "year 2000-2099, a true date"; 'Day and entry': "1 January 2000 is a Saturday; every fourth year from
+-- 2000 is leap."
 use Prim.Native.Nat.{ℕ, _+_, _-_, _*_, _/_, _%_}
 use mathlib.Core.Bool.{Bool, cond, _&&_}
 use mathlib.Core.List.{List, [], _∷_}
@@ -38,6 +38,19 @@ daysOf year month = between 1 (monthLength year month)
 -- "Year 2000-2099, a true date."
 unfoldable pub isDate : Date → Bool
 isDate date = isWithin years (date .year) && isWithin months (date .month) && isWithin (daysOf (date .year) (date .month)) (date .day)
+
+abbrev pub dateOf : ℕ → ℕ → ℕ → Date
+dateOf year month day = record { year = year; month = month; day = day }
+
+-- The last day of a month.
+unfoldable pub lastOf : ℕ → ℕ → Date
+lastOf year month = dateOf year month (monthLength year month)
+
+-- The day before; that of 1 January 2000 is 31 December 1999, which is no date.
+unfoldable pub dayBefore : Date → Date
+dayBefore date =
+    cond (ltb 1 (date .day)) (dateOf (date .year) (date .month) (date .day - 1))
+    (cond (ltb 1 (date .month)) (lastOf (date .year) (date .month - 1)) (lastOf (date .year - 1) 12))
 
 -- Days from 1 January 2000: those of the years before, one more for each leap year among them, and those of its own year.
 unfoldable pub dayNumber : Date → ℕ

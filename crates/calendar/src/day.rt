@@ -1,9 +1,9 @@
 // Dates from 2000 to 2099, their weekdays, and their places in the month.
 ghost use mathlib.Core.Path.{_≡_};
 ghost use mathlib.Core.Bool.{true};
-ghost use Prim.Native.Nat.{_≤_};
-ghost use Rattle.calendar.specs.Dates.{daysBefore, monthLength, daysOf, isDate, dayNumber, weekdayOf};
-ghost use Rattle.calendar.specs.Days.{inMonth, monthBefore, todayOf, yesterdayOf};
+ghost use Prim.Native.Nat.{_≤_, _-_};
+ghost use Rattle.calendar.specs.Dates.{daysBefore, monthLength, daysOf, isDate, lastOf, dayBefore, dayNumber, weekdayOf};
+ghost use Rattle.calendar.specs.Days.{inMonth, yesterdayOf};
 use numbers::Range;
 
 pub struct Date {
@@ -100,6 +100,40 @@ pub fn is_date(date: Date) -> bool
     numbers::within(days(date.year, date.month), date.day)
 }
 
+fn year_before(year: u16) -> u16
+    ensures { λ r. ⌜ r ≡ year - 1 ⌝ }
+{
+    if year == 0 { 0 } else { year - 1 }
+}
+
+// The last day of a month.
+fn last_of(year: u16, month: u16) -> Date
+    ensures { λ r. ⌜ r ≡ lastOf year month ⌝ }
+{
+    Date {
+        year,
+        month,
+        day: days(year, month).high,
+    }
+}
+
+// The day before; that of 1 January 2000 is 31 December 1999, which is no date.
+pub fn day_before(date: Date) -> Date
+    ensures { λ r. ⌜ r ≡ dayBefore date ⌝ }
+{
+    if 1 < date.day {
+        return Date {
+            year: date.year,
+            month: date.month,
+            day: date.day - 1,
+        };
+    }
+    if 1 < date.month {
+        return last_of(date.year, date.month - 1);
+    }
+    last_of(year_before(date.year), DECEMBER)
+}
+
 // Days from 1 January 2000.
 fn day_number(date: Date) -> u16
     requires { ⌜ isDate date ≡ true ⌝ }
@@ -117,33 +151,18 @@ pub fn weekday(date: Date) -> u16
     (day_number(date) + FIRST_WEEKDAY) % WEEK
 }
 
-// This day of a month of this length.
-fn in_month(month: u16, day: u16, length: u16, weekday: u16) -> Day
-    requires { ⌜ day ≤ 31 ⌝ }
-    ensures { λ r. ⌜ r ≡ inMonth month day length weekday ⌝ }
+// A date of this weekday in its month.
+pub fn in_month(date: Date, weekday: u16) -> Day
+    requires { ⌜ (1 ≤ date .month) × (date .month ≤ 12) × (date .day ≤ 31) ⌝ }
+    ensures { λ r. ⌜ r ≡ inMonth date weekday ⌝ }
 {
     Day {
-        month,
-        day,
+        month: date.month,
+        day: date.day,
         weekday,
-        week: (day + 6) / WEEK,
-        last: length < day + WEEK,
+        week: (date.day + 6) / WEEK,
+        last: month_length(date.year, date.month) < date.day + WEEK,
     }
-}
-
-// A date in its month; the weekday is the date's.
-pub fn today(date: Date, weekday: u16) -> Day
-    requires { ⌜ (isDate date ≡ true) × (weekday ≡ weekdayOf date) ⌝ }
-    ensures { λ r. ⌜ r ≡ todayOf date ⌝ }
-{
-    let length = month_length(date.year, date.month);
-    in_month(date.month, date.day, length, weekday)
-}
-
-fn month_before(month: u16) -> u16
-    ensures { λ r. ⌜ r ≡ monthBefore month ⌝ }
-{
-    if month <= 1 { DECEMBER } else { month - 1 }
 }
 
 // The day before a date, in its month; the weekday is the date's.
@@ -151,12 +170,5 @@ pub fn yesterday(date: Date, weekday: u16) -> Day
     requires { ⌜ (isDate date ≡ true) × (weekday ≡ weekdayOf date) ⌝ }
     ensures { λ r. ⌜ r ≡ yesterdayOf date ⌝ }
 {
-    let weekday_before = (weekday + 6) % WEEK;
-    if date.day <= 1 {
-        let month = month_before(date.month);
-        let length = month_length(date.year, month);
-        return in_month(month, length, length, weekday_before);
-    }
-    let length = month_length(date.year, date.month);
-    in_month(date.month, date.day - 1, length, weekday_before)
+    in_month(day_before(date), (weekday + 6) % WEEK)
 }

@@ -12,6 +12,7 @@ pub use clock::clock_bad;
 pub use day::Date;
 pub use day::MONTHS;
 pub use day::YEARS;
+pub use day::day_before;
 pub use day::days;
 pub use day::is_date;
 
@@ -46,6 +47,15 @@ fn row_at(rows: &[u16], i: u16) -> Row
     ensures { λ r. ⌜ r ≡ rowOf (now (rows .entry)) i ⌝ }
 {
     let at = (i as usize) * ranges::HOLIDAY_WIDTH;
+    // one look at the length for a row that is there whole
+    if at + 3 < rows.len() {
+        return Row {
+            kind: rows[at],
+            month: rows[at + 1],
+            nth: rows[at + 2],
+            weekday: rows[at + 3],
+        };
+    }
     Row {
         kind: numbers::number_at(rows, at),
         month: numbers::number_at(rows, at + 1),
@@ -121,7 +131,7 @@ pub fn day_type(date: Date, rows: &[u16], count: u16) -> u16
         return NO_DAY;
     }
     let weekday = day::weekday(date);
-    let today = day::today(date, weekday);
+    let today = day::in_month(date, weekday);
     let yesterday = day::yesterday(date, weekday);
     if is_holiday(today, yesterday, rows, count) {
         return HOLIDAY;

@@ -165,9 +165,20 @@ fn check_lists(date: Date, today: Place, yesterday: Place, tally: Tally) -> Tall
     t
 }
 
+// The day before is the one that the walk came by last.
+fn check_before(date: Date, yesterday: Place, tally: Tally) -> Tally {
+    let came = calendar::day_before(date);
+    let year = tally::compared(tally, date, came.year, yesterday.year);
+    let month = tally::compared(year, date, came.month, yesterday.month);
+    let mut t = tally::compared(month, date, came.day, yesterday.day);
+    t.before = tally::one_more(t.before);
+    t
+}
+
 fn check_day(date: Date, today: Place, yesterday: Place, tally: Tally) -> Tally {
     let dated = check_date(date, 1, tally);
-    let plain = check_plain(date, today, dated);
+    let before = check_before(date, yesterday, dated);
+    let plain = check_plain(date, today, before);
     let fixed = check_rows(date, today, yesterday, 1, plain);
     let floating = check_rows(date, today, yesterday, 2, fixed);
     let after = check_rows(date, today, yesterday, 3, floating);
@@ -175,9 +186,9 @@ fn check_day(date: Date, today: Place, yesterday: Place, tally: Tally) -> Tally 
 }
 
 // Checks today and goes on to the next day.
-fn past_day(year: u16, today: Place, stand: Stand) -> Stand {
+fn past_day(today: Place, stand: Stand) -> Stand {
     let date = Date {
-        year,
+        year: today.year,
         month: today.month,
         day: today.day,
     };
@@ -198,8 +209,8 @@ fn past_days(year: u16, month: u16, length: u16, stand: Stand) -> Stand {
     let mut s = stand;
     for day in 1..=length {
         seen = walk::raised(seen, s.weekday);
-        let today = walk::placed(month, day, s.weekday, seen, all);
-        s = past_day(year, today, s);
+        let today = walk::placed(year, month, day, s.weekday, seen, all);
+        s = past_day(today, s);
     }
     s
 }
@@ -255,6 +266,7 @@ fn main() {
     let first = Stand {
         weekday: 6,
         yesterday: Place {
+            year: 1999,
             month: 12,
             day: 31,
             weekday: 5,

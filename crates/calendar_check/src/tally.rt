@@ -5,6 +5,8 @@ use libc::STDOUT_FILENO;
 pub struct Tally {
     // answers to whether there is such a date
     pub dates: u64,
+    // days before
+    pub before: u64,
     // day types without holidays, with one fixed, floating or day after row, with a list of rows
     pub plain: u64,
     pub fixed: u64,
@@ -21,6 +23,7 @@ pub struct Tally {
 pub fn new() -> Tally {
     Tally {
         dates: 0,
+        before: 0,
         plain: 0,
         fixed: 0,
         floating: 0,
@@ -75,6 +78,7 @@ fn print_count(count: u64, of: &[u8]) {
 
 pub fn print(tally: Tally) {
     print_count(tally.dates, b" dates, ");
+    print_count(tally.before, b" days before, ");
     print_count(tally.plain, b" weekdays, ");
     print_count(tally.fixed, b" fixed, ");
     print_count(tally.floating, b" floating, ");

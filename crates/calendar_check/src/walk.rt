@@ -3,6 +3,7 @@
 
 // A day as the walk came by it.
 pub struct Place {
+    pub year: u16,
     pub month: u16,
     pub day: u16,
     // Sunday 0
@@ -72,9 +73,17 @@ pub fn month_weekdays(first: u16, length: u16) -> Weekdays {
 }
 
 // The day of a month at which each weekday has been seen so often, of so often in all.
-pub fn placed(month: u16, day: u16, weekday: u16, seen: Weekdays, all: Weekdays) -> Place {
+pub fn placed(
+    year: u16,
+    month: u16,
+    day: u16,
+    weekday: u16,
+    seen: Weekdays,
+    all: Weekdays,
+) -> Place {
     let seen_now = times(seen, weekday);
     Place {
+        year,
         month,
         day,
         weekday,

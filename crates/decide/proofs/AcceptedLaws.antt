@@ -1,22 +1,23 @@
--- What is not refused has a clock in range.
-use Prim.Native.Nat.{_≤_}
+-- What is not refused has a site and a clock in range.
 use mathlib.Core.Path.{_≡_, refl}
 use mathlib.Core.Bool.{Bool, true, false}
 use native.Mathlib.Omega.{arith}
 use Rattle.site.specs.declared.Site.{Site}
+use Rattle.site.specs.Record.{spoiltSite}
 use Rattle.calendar.specs.declared.clock.Clock.{Clock}
+use Rattle.calendar.specs.Clock.{clockBad}
 use Rattle.inputs.specs.declared.Command.{Command}
-use Rattle.wanted.proofs.ClockLaws.{tenth-good}
 use Rattle.state.specs.declared.State.{State}
 use Rattle.decide.specs.Decide.{firstRefusal, refusalOf}
 
-clock-good : (site state clock commands : Bool) → firstRefusal site state clock commands ≡ 0 → clock ≡ false
+good : (site state clock commands : Bool) → firstRefusal site state clock commands ≡ 0 → (site ≡ false) × (clock ≡ false)
 unfolding firstRefusal
-clock-good true state clock commands z = absurd (omega arith)
-clock-good false true clock commands z = absurd (omega arith)
-clock-good false false true commands z = absurd (omega arith)
-clock-good false false false commands z = refl
+good true state clock commands z = absurd (omega arith)
+good false true clock commands z = absurd (omega arith)
+good false false true commands z = absurd (omega arith)
+good false false false commands z = (refl, refl)
 
-pub accepted-tenth : (x : Site) (s : State) (clock : Clock) (manual centre : Command) → refusalOf x s clock manual centre ≡ 0 → clock .tenth ≤ 863999
+pub accepted : (x : Site) (s : State) (clock : Clock) (manual centre : Command) → refusalOf x s clock manual centre ≡ 0
+    → (spoiltSite x ≡ false) × (clockBad clock ≡ false)
 unfolding refusalOf
-accepted-tenth x s clock manual centre z = tenth-good clock (clock-good _ _ _ _ z)
+accepted x s clock manual centre z = good _ _ _ _ z

@@ -1,2 +1,4 @@
 pub mod Turns
 pub mod InForceLaws
+pub mod WayBack
+pub mod PastMidnightLaws

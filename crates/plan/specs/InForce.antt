@@ -8,7 +8,7 @@ use lib.Dec.{leb, eqb}
 use Rattle.plan.specs.declared.Entry.{Entry}
 use Rattle.plan.specs.Entry.{entryOf, onDay}
 
--- An entry applies if it is of today's day type and has started.
+-- An entry applies if it is of this day type and has started by this minute.
 unfoldable pub applies : Entry → ℕ → ℕ → Bool
 applies e day minute = onDay (e .days) day && leb (e .start) minute
 
@@ -29,8 +29,8 @@ inForceFrom rows day minute best start i (suc n) =
 unfoldable pub inForceOf : List ℕ → ℕ → ℕ → ℕ → ℕ
 inForceOf rows count day minute = inForceFrom rows day minute 0 0 0 count
 
--- The same in the paper's own words, which `in_force` promises too: of the first count entries, the one at this place from 1 is in force; at
--- 0, none applies.
+-- The same in the paper's own words, which `in_force` promises too: of the first count entries, the one at this place from 1 is in force;
+-- at 0, none applies.
 pub record InForce (rows : List ℕ) (count day minute place : ℕ) : Type 0 where
   pub none : place ≡ 0 → (j : ℕ) → j < count → applies (entryOf rows j) day minute ≡ false
   pub one-of-them : (k : ℕ) → place ≡ k + 1 → (k < count) × (applies (entryOf rows k) day minute ≡ true)

@@ -1,7 +1,11 @@
 // The plan's entries.
+mod today;
+
 ghost use mathlib.Core.Path.{_≡_};
 ghost use Rattle.plan.specs.Entry.{entryOf, onDay};
 ghost use Rattle.plan.specs.InForce.{applies, takesOver, inForceOf, InForce};
+pub use today::DayAndEntry;
+pub use today::day_and_entry;
 
 // One time-of-day entry.
 pub struct Entry {
@@ -67,7 +71,7 @@ fn takes_over(e: Entry, day: u16, minute: u16, best: u16, start: u16) -> bool
     start <= e.start
 }
 
-// The place from 1 of the entry in force; 0 for none. It is the one of the latest start among those that
+// The place from 1 of the entry in force on a day type at a minute; 0 for none. It is the one of the latest start among those that
 // apply, and among equal starts the last filed.
 pub fn in_force(rows: &[u16], count: u16, day: u16, minute: u16) -> u16
     ensures is { λ r. ⌜ r ≡ inForceOf (now (rows .entry)) count day minute ⌝ }

@@ -1,4 +1,4 @@
--- What an accepted tick has been checked for, its cycle, and that it keeps the state in range.
+-- What an accepted tick has been checked for, its entry and its cycle, and that it keeps the state in range.
 use Prim.Native.Nat.{ℕ, _≤_}
 use mathlib.Core.Path.{_≡_, refl}
 use mathlib.Core.Bool.{Bool, true, false, cond}
@@ -17,6 +17,8 @@ use Rattle.period.proofs.RangeLaws.{periods-released}
 use Rattle.wanted.specs.declared.wish.Wish.{Wish}
 use Rattle.wanted.specs.declared.wish.Wish.the-variants.{Dark, Green, Metering, Clear}
 use Rattle.wanted.specs.Wish.{rateOf}
+use Rattle.wanted.specs.Decision.{EntryInForce, decisionOf}
+use Rattle.wanted.proofs.EntryLaws.{entry-is}
 use Rattle.wanted.proofs.RateLaws.{WishGood, wish-good, rate-cases}
 use Rattle.release.specs.Cycle.{cycleTicks}
 use Rattle.release.proofs.CycleLaws.{cycle-nearest, cycle-most, cycle-least, no-cycle}
@@ -102,6 +104,11 @@ module _ (x : Site) (s : State) (i : Input) (a : Accepted x s i) where
   wish-in : WishGood (decidedIn x s i .wish)
   unfolding decidedIn
   wish-in = wish-good x (a .site) (i .clock) (i .manual) (i .centre) (countedIn x s i) (a .commands)
+
+  -- Its entry is in force in the request's words.
+  pub tick-entry : EntryInForce x (i .clock) (acceptedTick x s i .decision .entry)
+  unfolding acceptedTick decidedIn decisionOf
+  tick-entry = entry-is x (i .clock) (a .site) (a .clock)
 
   -- Its cycle is the nearest whole tick and lies in 20 to 720 where metering is wished, and is none elsewhere.
   pub tick-cycle : Cycled (timingsOf x .vehicles) (acceptedTick x s i .decision .wish) (acceptedTick x s i .cycle)

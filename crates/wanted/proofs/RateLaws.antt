@@ -15,7 +15,6 @@ use Rattle.inputs.specs.declared.Command.{Command}
 use Rattle.inputs.specs.Commands.{commandBad, commandsBad}
 use Rattle.inputs.proofs.CommandLaws.{command-rate}
 use Rattle.plan.specs.Entry.{entryOf}
-use Rattle.plan.proofs.InForceLaws.{in-force-in}
 use Rattle.period.specs.declared.Periods.{Periods}
 use Rattle.levels.specs.declared.measure.Measured.{Measured}
 use Rattle.levels.specs.declared.measure.Measured.the-variants.{NoGoodLane, Over}
@@ -28,7 +27,8 @@ use Rattle.wanted.specs.declared.wish.Source.{Source}
 use Rattle.wanted.specs.declared.wish.Source.the-variants.{Manual, Centre, Plan}
 use Rattle.wanted.specs.declared.wish.Choice.{Choice}
 use Rattle.wanted.specs.Wish.{rateOf, kindOf, plannedOf, sourceOf, rulingOf, levelChoice, measuredChoice, responsiveChoice, choiceOf, choice}
-use Rattle.wanted.specs.Decision.{dayOf, entryInForce, commandInForce, decisionOf}
+use Rattle.wanted.specs.Decision.{entryInForce, commandInForce, decisionOf}
+use Rattle.wanted.proofs.EntryLaws.{entry-in}
 
 abbrev pub WishGood : Wish → Type 0
 WishGood Dark = Unit {0}
@@ -105,9 +105,9 @@ module _ (x : Site) (ok : spoiltSite x ≡ false) where
         (λ e. tt)))
 
   pub wish-good : (clock : Clock) (manual centre : Command) (p : Periods) → commandsBad manual centre ≡ false → WishGood (decisionOf x clock manual centre p .wish)
-  unfolding commandsBad decisionOf commandInForce entryInForce
+  unfolding commandsBad decisionOf commandInForce
   wish-good clock manual centre p e =
       let both = neither (commandBad manual) (commandBad centre) e in
       choice-good (mainlineLanes x) p (commandInForce x clock manual centre)
       (ruling-good (sourceOf manual centre) manual centre (plannedOf (x .plan) (entryInForce x clock)) (command-rate manual (both .0)) (command-rate centre (both .1))
-      (planned-good (entryInForce x clock) (in-force-in (x .plan) (x .entries) (dayOf x clock) _)))
+      (planned-good (entryInForce x clock) (entry-in x clock)))

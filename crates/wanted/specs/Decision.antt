@@ -1,10 +1,13 @@
--- Document 01, 'Day and entry', 'What is wanted': what a clock, two commands and the periods decide at a site.
-use Prim.Native.Nat.{ℕ, _/_}
+-- Document 01, 'Day and entry', 'What is wanted', and document 02, 'Plans that run past midnight': what a clock, two commands and the
+-- periods decide at a site.
+use Prim.Native.Nat.{ℕ, _/_, _≤_, _<_}
 use Rattle.site.specs.declared.Site.{Site}
 use Rattle.site.specs.Named.{mainlineLanes}
 use Rattle.calendar.specs.declared.clock.Clock.{Clock}
 use Rattle.calendar.specs.Holidays.{noDay, dayTypeOf}
-use Rattle.plan.specs.InForce.{inForceOf}
+use Rattle.plan.specs.Entry.{entryOf}
+use Rattle.plan.specs.InForce.{inForceOf, InForce}
+use Rattle.plan.specs.PastMidnight.{lastMinute, inForceNow, InForceNow}
 use Rattle.inputs.specs.declared.Command.{Command}
 use Rattle.period.specs.declared.Periods.{Periods}
 use Rattle.wanted.specs.declared.wish.Choice.{Choice}
@@ -17,8 +20,19 @@ unfoldable pub dayOf : Site → Clock → ℕ
 dayOf x clock = dayTypeOf (clock .date) (x .dates) (x .holidays)
 
 -- An entry is in force from its minute's first tenth; a minute has 600 tenths.
+abbrev pub minuteOf : Clock → ℕ
+minuteOf clock = clock .tenth / 600
+
 unfoldable pub entryInForce : Site → Clock → ℕ
-entryInForce x clock = inForceOf (x .plan) (x .entries) (dayOf x clock) (clock .tenth / 600)
+entryInForce x clock = inForceNow (inForceOf (x .plan) (x .entries)) (x .dates) (x .holidays) (clock .date) (minuteOf clock)
+
+-- The same in words, which `decide` and the tick promise where they refuse nothing.
+pub record EntryInForce (x : Site) (clock : Clock) (place : ℕ) : Type 0 where
+  pub in-force : InForceNow (inForceOf (x .plan) (x .entries)) (x .dates) (x .holidays) (clock .date) (minuteOf clock) place
+  -- "The latest start there, equal starts as before": what is in force on a day type at a minute, in document 01's words,
+  pub latest : (day minute : ℕ) → InForce (x .plan) (x .entries) day minute (inForceOf (x .plan) (x .entries) day minute)
+  -- and at a day's end each entry of it has begun.
+  pub begun : (i : ℕ) → i < x .entries → entryOf (x .plan) i .start ≤ lastMinute
 
 unfoldable pub commandInForce : Site → Clock → Command → Command → Command
 commandInForce x clock manual centre = rulingOf (sourceOf manual centre) manual centre (plannedOf (x .plan) (entryInForce x clock))

@@ -8,6 +8,7 @@ ghost use Rattle.wanted.specs.Decision.{dayOf, entryInForce, decisionOf,
 use calendar::Clock;
 use inputs::Command;
 use period::Periods;
+use plan::DayAndEntry;
 use site::Site;
 pub use wish::Source;
 pub use wish::Wish;
@@ -34,25 +35,22 @@ pub fn rate_of(wish: Wish) -> u16
     }
 }
 
-fn day_of(site: Site, clock: Clock) -> u16
-    ensures { λ r. ⌜ r ≡ dayOf site clock ⌝ }
-{
-    let dates = site.dates;
-    let date = clock.date;
-    calendar::day_type(date, &dates, site.holidays)
-}
-
 const TENTHS_OF_A_MINUTE: u32 = 600;
 
-fn entry_in_force(site: Site, clock: Clock, day: u16) -> u16
-    requires { ⌜ (day ≡ dayOf site clock) × (clock .tenth ≤ 863999) ⌝ }
-    ensures { λ r. ⌜ r ≡ entryInForce site clock ⌝ }
+fn day_and_entry(site: Site, clock: Clock) -> DayAndEntry
+    requires { ⌜ clock .tenth ≤ 863999 ⌝ }
+    ensures day { λ r. ⌜ r .day ≡ dayOf site clock ⌝ }
+    ensures entry { λ r. ⌜ r .entry ≡ entryInForce site clock ⌝ }
 {
     let plan = site.plan;
-    plan::in_force(
+    let dates = site.dates;
+    let date = clock.date;
+    plan::day_and_entry(
         &plan,
         site.entries,
-        day,
+        &dates,
+        site.holidays,
+        date,
         (clock.tenth / TENTHS_OF_A_MINUTE) as u16,
     )
 }
@@ -68,8 +66,8 @@ pub fn wanted_now(
     requires { ⌜ clock .tenth ≤ 863999 ⌝ }
     ensures { λ r. ⌜ r ≡ decisionOf site clock manual centre p ⌝ }
 {
-    let day = day_of(site, clock);
-    let entry = entry_in_force(site, clock, day);
+    let today = day_and_entry(site, clock);
+    let entry = today.entry;
     let plan = site.plan;
     let source = wish::source_of(manual, centre);
     let command = wish::ruling(source, manual, centre, wish::planned(&plan, entry));
@@ -78,7 +76,7 @@ pub fn wanted_now(
     let choice = wish::chosen(command, &tables, site.levels, shape.mainline, p);
     let wish = choice.wish;
     Decision {
-        day,
+        day: today.day,
         entry,
         source,
         level: choice.level,

@@ -22,24 +22,27 @@ use Rattle.turns.specs.Turn.{nextOf}
 use Rattle.period.specs.Counting.{speedOf, timedOf, laneCounted, laneCountedAt, passagesAt, countedOf, nextSerial, closedOf, afterTick, greensAt, greenCounted, afterRelease}
 use Rattle.period.specs.Counts.{noPeriods, goodOf}
 use Rattle.period.specs.Range.{laneSpoilt as countsLaneSpoilt, laneKept as countsLaneKept, laneSpoiltAt as countsLaneSpoiltAt, meteredSpoilt, meteredKept, meteredSpoiltAt, countsSpoilt, lastTicks, periodsSpoilt}
+use Rattle.plan.specs.Entry.{onDay}
+use Rattle.plan.specs.InForce.{applies, takesOver, inForceOf}
+use Rattle.plan.specs.PastMidnight.{inForceNow}
 use Rattle.wanted.specs.Decision.{dayOf, entryInForce, commandInForce, decisionOf}
 use Rattle.wanted.specs.Wish.{plannedOf, sourceOf, choiceOf}
 use Rattle.inputs.specs.Samples.{meteredBad, laneBad, samplesBad, callBad}
 use Rattle.inputs.specs.Commands.{carriesNothing, commandBad, commandsBad}
 use Rattle.calendar.specs.Clock.{clockBad}
-use Rattle.calendar.specs.Dates.{daysBefore, monthLength, isDate, dayNumber, weekdayOf}
+use Rattle.calendar.specs.Dates.{daysBefore, monthLength, isDate, lastOf, dayBefore, dayNumber, weekdayOf}
 use Rattle.site.specs.Record.{spoiltOf, spoiltSite}
 use Rattle.numbers.specs.Within.{isWithin}
-use Rattle.ranges.specs.Ranges.{timingRange, rateRange, tableRange}
+use Rattle.ranges.specs.Ranges.{timingRange, rateRange, tableRange, entryRange, dayOrWeekRange, weekdayRange, holidayRange}
 use Rattle.ranges.specs.Sections.{rangeOf, isGood}
 use Rattle.site.specs.Reading.{sectionOf, readOf}
 use Rattle.site.specs.Writing.{wordsOf}
-use Rattle.calendar.specs.Days.{inMonth, todayOf, monthBefore, yesterdayOf}
+use Rattle.calendar.specs.Days.{inMonth, todayOf, yesterdayOf}
 use Rattle.calendar.specs.Holidays.{isFloating, inWeek, dayTypeOf, isNamed, isFixed}
 use Rattle.levels.specs.Measures.{totalsOf, measuresOf}
 use Rattle.levels.specs.Levels.{reachesOf, isSlow, isMet}
 
 -- To unfold this is to unfold what its line names.
 unfoldable pub computing : Unit {0}
-unfolding clearingTicks clears isPreMetering isHeld steeredWish ordinaryInterval sampleBad callBad isWaiting waitingBound turnTicks atPowerUp answerTo isAccepted onward greenBegins allDark toNearest cycleTicks roundedUp dayTypeOf isDate daysBefore monthLength dayNumber weekdayOf inMonth todayOf monthBefore yesterdayOf isFloating inWeek isFixed isNamed measuresOf totalsOf goodOf isMet reachesOf isSlow wordsOf readOf sectionOf isGood rangeOf timingRange isWithin stateAfter answerAt releasesFrom releases inputRefusal tickRefusal timingsOf powerUpOf countedIn decidedIn cycleIn movedIn acceptedTick refusedTick tickOf stateSpoilt freshState allRed intervalOf lanesIn releasedIn groupOf lanesMoved movedWith movedOf colourShown lowerShown signShown laneShown indicationsOf ageOf timeOf successorOf nextInterval colourSpoilt laneSpoilt laneKept laneSpoiltAt lanesSpoilt groupSpoilt riseOf passagesOf greenEnds greenAt yellowAt laneTick laneOf lanesOf laneTickAt lanesTick laneEntered lanesEntered offsetTicks isReady readyAt anyGreen mayRelease nextOf releasedOf greenIf releaseOf speedOf timedOf laneCounted laneCountedAt passagesAt countedOf nextSerial closedOf afterTick greensAt greenCounted afterRelease noPeriods countsLaneSpoilt countsLaneKept countsLaneSpoiltAt meteredSpoilt meteredKept meteredSpoiltAt countsSpoilt lastTicks periodsSpoilt dayOf entryInForce commandInForce decisionOf plannedOf sourceOf choiceOf meteredBad laneBad samplesBad carriesNothing commandBad commandsBad clockBad spoiltOf spoiltSite rateRange tableRange
+unfolding clearingTicks clears isPreMetering isHeld steeredWish ordinaryInterval sampleBad callBad isWaiting waitingBound turnTicks atPowerUp answerTo isAccepted onward greenBegins allDark toNearest cycleTicks roundedUp dayTypeOf isDate daysBefore monthLength dayNumber weekdayOf inMonth todayOf lastOf dayBefore yesterdayOf isFloating inWeek isFixed isNamed measuresOf totalsOf goodOf isMet reachesOf isSlow wordsOf readOf sectionOf isGood rangeOf timingRange isWithin stateAfter answerAt releasesFrom releases inputRefusal tickRefusal timingsOf powerUpOf countedIn decidedIn cycleIn movedIn acceptedTick refusedTick tickOf stateSpoilt freshState allRed intervalOf lanesIn releasedIn groupOf lanesMoved movedWith movedOf colourShown lowerShown signShown laneShown indicationsOf ageOf timeOf successorOf nextInterval colourSpoilt laneSpoilt laneKept laneSpoiltAt lanesSpoilt groupSpoilt riseOf passagesOf greenEnds greenAt yellowAt laneTick laneOf lanesOf laneTickAt lanesTick laneEntered lanesEntered offsetTicks isReady readyAt anyGreen mayRelease nextOf releasedOf greenIf releaseOf speedOf timedOf laneCounted laneCountedAt passagesAt countedOf nextSerial closedOf afterTick greensAt greenCounted afterRelease noPeriods countsLaneSpoilt countsLaneKept countsLaneSpoiltAt meteredSpoilt meteredKept meteredSpoiltAt countsSpoilt lastTicks periodsSpoilt dayOf onDay applies takesOver inForceOf inForceNow entryInForce entryRange dayOrWeekRange weekdayRange holidayRange commandInForce decisionOf plannedOf sourceOf choiceOf meteredBad laneBad samplesBad carriesNothing commandBad commandsBad clockBad spoiltOf spoiltSite rateRange tableRange
 computing = tt

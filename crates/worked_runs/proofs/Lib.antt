@@ -2,3 +2,4 @@ pub mod Computing
 pub mod Starred
 pub mod Preemption
 pub mod NearestCycle
+pub mod PastMidnight

@@ -4,3 +4,4 @@ pub mod TwoLanes
 pub mod Starred
 pub mod Preemption
 pub mod NearestCycle
+pub mod PastMidnight

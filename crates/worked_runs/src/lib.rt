@@ -1,2 +1,2 @@
 // Worked runs that are proved of the definitions: specs/Starred.antt states those that document 01
-// marks, specs/Preemption.antt those of the fire service's number. There is no code here.
+// marks; Preemption, NearestCycle and PastMidnight state those of document 02. There is no code here.

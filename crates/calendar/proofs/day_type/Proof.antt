@@ -1,7 +1,12 @@
 -- The calls are those of the definition, each made once.
-use mathlib.Core.Path.{sym, _∙_}
+use denote.Ref.{now}
+use mathlib.Core.Path.{_≡_, sym, _∙_}
+use mathlib.Core.Bool.{true, cond}
 use borrow.Author.Tests.{not-true, not-false}
+use Rattle.calendar.specs.Dates.{isDate}
+use Rattle.calendar.specs.Days.{todayOf}
 use Rattle.calendar.specs.Holidays.{dayTypeOf}
+use Rattle.calendar.proofs.DateLaws.{bounds}
 use borrow.Author.Needs.{needs}
 use Rattle.calendar.proofs.day_type.Statement.{statement}
 use Rattle.calendar.proofs.day_type.Tie as tie
@@ -13,40 +18,42 @@ returns : tie.Need-returns
 unfolding dayTypeOf
 returns c = rw (sym (c .before .is-date .ensures) ∙ not-true _ (c .if1 .taken))
 
-weekday-requires : tie.Need-weekday-requires
-weekday-requires c κs = sym (c .before .is-date .ensures) ∙ not-false _ (c .if1 .left)
+dated : (c : tie.Else1) → isDate (c .before .before .before .args .date) ≡ true
+dated c = sym (c .before .is-date .ensures) ∙ not-false _ (c .if1 .left)
 
-today-requires : tie.Need-today-requires
-today-requires c κs = (sym (c .before .before .is-date .ensures) ∙ not-false _ (c .before .if1 .left), c .weekday .ensures)
+weekday-requires : tie.Need-weekday-requires
+weekday-requires c κs = dated c
+
+in-month-requires : tie.Need-in-month-requires
+in-month-requires c κs = let b = bounds _ (dated (c .before)) in (b .month-low, b .month-high, b .day-high)
 
 yesterday-requires : tie.Need-yesterday-requires
-yesterday-requires c κs = (sym (c .before .before .before .is-date .ensures) ∙ not-false _ (c .before .before .if1 .left), c .before .weekday .ensures)
+yesterday-requires c κs = (dated (c .before .before), c .before .weekday .ensures)
 
 is-holiday-requires : tie.Need-is-holiday-requires
 is-holiday-requires c κs = search needs
 
-returns-2 : tie.Need-returns-2
-unfolding dayTypeOf
-returns-2 c =
+-- Of a date it is Holiday or the weekday, by the call's answer.
+by-answer : (c : tie.After-is-holiday)
+    → let d = c .before .before .before .before in
+    let a = d .before .before .before .args in
+    dayTypeOf (a .date) (now (a .rows)) (a .count) ≡ cond (c .is-holiday .result) 7 (c .before .before .before .weekday .result)
+unfolding dayTypeOf todayOf
+by-answer c =
+    let w = c .before .before .before in
     rw (
-      sym (c .before .before .before .before .before .before .is-date .ensures) ∙ not-false _ (c .before .before .before .before .before .if1 .left),
-      ← c .before .before .before .today .ensures,
-      ← c .before .before .yesterday .ensures,
-      ← c .before .is-holiday .ensures,
-      c .if2 .taken,
+      dated (w .before),
+      ← w .weekday .ensures,
+      ← c .before .before .in-month .ensures,
+      ← c .before .yesterday .ensures,
+      ← c .is-holiday .ensures,
     )
 
+returns-2 : tie.Need-returns-2
+returns-2 c = sym (rw (c .if2 .taken) at (by-answer (c .before)))
+
 returns-3 : tie.Need-returns-3
-unfolding dayTypeOf
-returns-3 c =
-    rw (
-      sym (c .before .before .before .before .before .before .is-date .ensures) ∙ not-false _ (c .before .before .before .before .before .if1 .left),
-      ← c .before .before .before .today .ensures,
-      ← c .before .before .yesterday .ensures,
-      ← c .before .is-holiday .ensures,
-      c .if2 .left,
-    )
-    (c .before .before .before .before .weekday .ensures)
+returns-3 c = sym (rw (c .if2 .left) at (by-answer (c .before)))
 
 pub day-type-spec : {M : Type 1} → statement M
 day-type-spec =
@@ -55,7 +62,7 @@ day-type-spec =
     is-date-requires
     returns
     weekday-requires
-    today-requires
+    in-month-requires
     yesterday-requires
     is-holiday-requires
     returns-2

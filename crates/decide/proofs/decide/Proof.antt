@@ -1,6 +1,13 @@
--- The refusal, or the decision: no refusal means a clock in range.
-use Rattle.decide.proofs.AcceptedLaws.{accepted-tenth}
+-- The refusal, or the decision: no refusal means a site and a clock in range.
+use Rattle.calendar.specs.Clock.{clockBad}
+use Rattle.site.specs.Record.{spoiltSite}
+use Rattle.wanted.specs.Decision.{decisionOf}
+use Rattle.wanted.proofs.ClockLaws.{tenth-good}
+use Rattle.wanted.proofs.EntryLaws.{entry-is}
+use Rattle.decide.proofs.AcceptedLaws.{accepted}
 use Rattle.decide.specs.Decide.{decidedOf}
+use mathlib.Core.Bool.{false}
+use mathlib.Core.Path.{_≡_}
 use borrow.Author.Tests.{ne-eqb}
 use borrow.Author.Needs.{needs}
 use Rattle.decide.proofs.decide.Statement.{statement}
@@ -14,17 +21,25 @@ no-decision-requires c κs = search needs
 
 returns : tie.Need-returns
 unfolding decidedOf
-returns c = rw (← c .before .before .refusal-of .ensures, ne-eqb _ _ (c .before .if1 .taken), c .no-decision .ensures)
+returns c = (rw (← c .before .before .refusal-of .ensures, ne-eqb _ _ (c .before .if1 .taken), c .no-decision .ensures), (λ z. absurd (c .before .if1 .taken z)))
+
+in-range : (c : tie.Else1)
+    → let a = c .before .before .args in (spoiltSite (a .site) ≡ false) × (clockBad (a .clock) ≡ false)
+in-range c =
+    let a = c .before .before .args in
+    accepted (a .site) (a .state) (a .clock) (a .manual) (a .centre) (rw (← c .before .refusal-of .ensures) (c .if1 .left))
 
 wanted-now-requires : tie.Need-wanted-now-requires
-wanted-now-requires c κs =
-    let r = c .before .before in
-    let a = r .before .args in
-    accepted-tenth (a .site) (a .state) (a .clock) (a .manual) (a .centre) (rw (← r .refusal-of .ensures) (c .before .if1 .left))
+wanted-now-requires c κs = tenth-good _ (in-range (c .before) .1)
 
 returns-2 : tie.Need-returns-2
-unfolding decidedOf
-returns-2 c = let e = c .before .before in rw (← e .before .refusal-of .ensures, e .if1 .left, c .wanted-now .ensures)
+unfolding decidedOf decisionOf
+returns-2 c =
+    let e = c .before .before in
+    let a = e .before .before .args in (
+      rw (← e .before .refusal-of .ensures, e .if1 .left, c .wanted-now .ensures),
+      (λ _. rw (c .wanted-now .ensures) (entry-is (a .site) (a .clock) (in-range e .0) (in-range e .1))),
+    )
 
 pub decide-spec : {M : Type 1} → statement M
 decide-spec =

@@ -1,7 +1,7 @@
 -- The checks, then the refused or the accepted tick.
 use Rattle.tick.specs.declared.Ticked.{Ticked}
 use Rattle.tick.specs.Tick.{refusedTick, tickOf}
-use Rattle.tick.proofs.TickLaws.{accepted, tick-steered, tick-cycle}
+use Rattle.tick.proofs.TickLaws.{accepted, tick-entry, tick-steered, tick-cycle}
 use Rattle.tick.proofs.WaitingLaws.{waiting-bound}
 use Rattle.tick.proofs.PreemptionLaws.{preemption-clears}
 use borrow.Author.Tests.{ne-eqb, eq-eqb}
@@ -23,7 +23,10 @@ returns c =
     let never : c .refused .result .refusal ≡ 0 → ⊥ =
     λ z. c .before .if1 .taken (sym (ap (λ (t : Ticked). t .refusal) (c .refused .ensures)) ∙ z) in (
       rw (← r .refusal-of .ensures, ne-eqb _ _ (c .before .if1 .taken)) (c .refused .ensures),
-      ((λ z. absurd (never z)), ((λ z. absurd (never z)), ((λ z. absurd (never z)), (waiting-bound _, preemption-clears _)))),
+      (
+        (λ z. absurd (never z)),
+        ((λ z. absurd (never z)), ((λ z. absurd (never z)), ((λ z. absurd (never z)), (waiting-bound _, preemption-clears _)))),
+      ),
     )
 
 advance-requires : tie.Need-advance-requires
@@ -39,10 +42,13 @@ returns-2 c =
       (
         (λ _. c .advance .ensures .1),
         (
-          (λ _. rw (c .advance .ensures .0) (tick-steered (a .site) (a .state) (a .input))),
+          (λ _. rw (c .advance .ensures .0) (tick-entry (a .site) (a .state) (a .input) passed)),
           (
-            (λ _. rw (c .advance .ensures .0) (tick-cycle (a .site) (a .state) (a .input) passed)),
-            (waiting-bound _, preemption-clears _),
+            (λ _. rw (c .advance .ensures .0) (tick-steered (a .site) (a .state) (a .input))),
+            (
+              (λ _. rw (c .advance .ensures .0) (tick-cycle (a .site) (a .state) (a .input) passed)),
+              (waiting-bound _, preemption-clears _),
+            ),
           ),
         ),
       ),

@@ -9,11 +9,8 @@ use Rattle.wanted.proofs.wanted_now.Tie as tie
 tables-long : (s : tie.Start) → length (s .args .site .tables) ≡ 120
 tables-long s = search needs
 
-day-of-requires : tie.Need-day-of-requires
-day-of-requires c κs = search needs
-
-entry-in-force-requires : tie.Need-entry-in-force-requires
-entry-in-force-requires c κs = search needs
+day-and-entry-requires : tie.Need-day-and-entry-requires
+day-and-entry-requires c κs = search needs
 
 source-of-requires : tie.Need-source-of-requires
 source-of-requires c κs = search needs
@@ -31,7 +28,7 @@ shape-of-requires : tie.Need-shape-of-requires
 shape-of-requires c κs = search needs
 
 slice-aggregate-chosen : tie.Need-slice-aggregate-chosen
-slice-aggregate-chosen c = sym (tables-long (c .before .before .before .before .before .before .before .before .before .before))
+slice-aggregate-chosen c = sym (tables-long (c .before .before .before .before .before .before .before .before .before))
 
 chosen-requires : tie.Need-chosen-requires
 chosen-requires c κs = search needs
@@ -40,14 +37,13 @@ returns : tie.Need-returns
 unfolding decisionOf commandInForce
 returns c =
     let e = c .before .before .before .before .before .before .before .before .before in
-    rw (c .chosen .ensures, c .before .before .shape-of .ensures, c .before .before .before .before .ruling .ensures, c .before .before .before .before .before .planned .ensures, c .before .before .before .before .before .before .before .source-of .ensures, e .entry-in-force .ensures, e .before .day-of .ensures)
+    rw (c .chosen .ensures, c .before .before .shape-of .ensures, c .before .before .before .before .ruling .ensures, c .before .before .before .before .before .planned .ensures, c .before .before .before .before .before .before .before .source-of .ensures, e .day-and-entry .ensures .1, e .day-and-entry .ensures .0)
 
 pub wanted-now-spec : {M : Type 1} → statement M
 wanted-now-spec =
     tie.close
     (tie.spec
-    day-of-requires
-    entry-in-force-requires
+    day-and-entry-requires
     source-of-requires
     slice-aggregate-planned
     planned-requires

@@ -3,6 +3,8 @@
 use std::sync::OnceLock;
 
 pub const HOLIDAY: usize = 7;
+/// Of a day.
+pub const TENTHS: u32 = 864_000;
 
 #[derive(Clone, Copy, Debug, PartialEq, Eq, PartialOrd, Ord)]
 pub struct Date {
@@ -78,6 +80,24 @@ pub fn day_before(date: Date) -> Date {
     days()[place(date) - 1].0
 }
 
+/// "It goes back seven days at most, and never before 1 January 2000": yesterday, the day before it and so on.
+pub fn days_back(date: Date) -> impl Iterator<Item = Date> {
+    let before = days()[..place(date)].iter().rev().map(|(d, _)| *d);
+    before.take(7).take_while(|d| *d >= Date { year: 2000, month: 1, day: 1 })
+}
+
+/// The date so many days on, or back; none outside the walked days.
+pub fn shifted(date: Date, by: i32) -> Option<Date> {
+    let place = place(date) as i32 + by;
+    days().get(usize::try_from(place).ok()?).map(|(d, _)| *d)
+}
+
+/// The clock so many ticks on, as a clock goes: after the last tenth of a day comes the first of the next. None after 2099.
+pub fn later(clock: Clock, ticks: u32) -> Option<Clock> {
+    let tenth = clock.tenth + ticks;
+    Some(Clock { date: shifted(clock.date, (tenth / TENTHS) as i32)?, tenth: tenth % TENTHS })
+}
+
 /// The days of that month with that weekday, first to last.
 pub fn such_days(year: u16, month: u16, weekday: u16) -> Vec<Date> {
     let first = place(Date { year, month, day: 1 });
@@ -124,5 +144,5 @@ pub fn day_type(date: Date, holidays: &[[u16; 4]]) -> usize {
 /// Year 2000-2099, a true date, tenth of the day 0-863999.
 pub fn clock_ok(clock: Clock) -> bool {
     let true_date = search(clock.date).is_some();
-    true_date && clock.date.year != 1999 && clock.tenth <= 863_999
+    true_date && clock.date.year != 1999 && clock.tenth < TENTHS
 }

@@ -1,6 +1,7 @@
 //! The stored cases of `crates/call_cases`.
 
 use crate::cases;
+use crate::midnight_cases;
 use crate::nearest_cases;
 use crate::preemption_cases;
 use crate::random::Random;
@@ -12,6 +13,6 @@ const DECISIONS: usize = 3500;
 
 pub fn cases() -> Vec<Vec<u8>> {
     let mut r = Random::new(SEED);
-    let named = [preemption_cases::cases(), nearest_cases::cases(), refusal_cases::cases()].concat();
+    let named = [preemption_cases::cases(), nearest_cases::cases(), midnight_cases::cases(), refusal_cases::cases()].concat();
     [tick_cases::cases(&mut r), named, cases::cases(&mut r, DECISIONS)].concat()
 }

@@ -16,7 +16,7 @@ use crate::preemption::Watch;
 use crate::record::Record;
 use crate::row;
 use crate::site::{self, Site};
-use crate::tally::Tally;
+use crate::tally::{InForce, Tally};
 use crate::text;
 use crate::tick::{self, state_spoilt, Answer, Input, KeptLane, State, NOTHING_DECIDED};
 use crate::wanted::{cycle, half_goes_up, Command, Wish};
@@ -179,6 +179,9 @@ struct Run<'a> {
     /// The site of the last power-up, while every tick accepted since is at that site, and no state came from elsewhere.
     powered: Option<Site>,
     watch: Watch,
+    /// Of the decisions and of the ticks.
+    decided: InForce,
+    ticked: InForce,
     out: String,
     tally: &'a mut Tally,
 }
@@ -216,6 +219,7 @@ impl Run<'_> {
             self.watch_call(answer.refusal, input.preemption);
             let half = self.goes_up(answer.decision.wish);
             self.tally.count("ticks whose cycle is a half going up", half);
+            self.ticked.note(input.clock, &answer.decision);
             let line = tick_line(&answer);
             if line != before || answer.released != 0 {
                 writeln!(self.out, "{number} {line}").unwrap();
@@ -283,6 +287,7 @@ impl Run<'_> {
         self.tally.count("decisions", 1);
         let half = self.goes_up(decision.wish);
         self.tally.count("decisions whose cycle is a half going up", half);
+        self.decided.note(clock, &decision);
         self.tally.refused(refusal);
         writeln!(self.out, "decide {refusal} {} {cycle}", text::decision(&decision)).unwrap();
     }
@@ -330,6 +335,8 @@ pub fn answer(case: &[u8], tally: &mut Tally) -> String {
         state: State::default(),
         powered: None,
         watch: Watch::default(),
+        decided: InForce::default(),
+        ticked: InForce::default(),
         out: String::new(),
         tally,
     };
@@ -338,5 +345,8 @@ pub fn answer(case: &[u8], tally: &mut Tally) -> String {
         run.op(op);
     }
     run.watch.count(run.tally);
+    run.decided.count("decisions", run.tally);
+    run.ticked.count("ticks", run.tally);
+    run.ticked.count_midnights("ticks", run.tally);
     run.out
 }

@@ -1,6 +1,6 @@
 //! Random sites, clocks, commands, periods and states, and cases made of them: what is wanted, and the poll record.
 
-use crate::calendar::{self, day_before, month_length, such_days, weekday, Clock, Date};
+use crate::calendar::{self, day_before, month_length, shifted, such_days, weekday, Clock, Date};
 use crate::call_run::{payload, Op};
 use crate::periods::{Counts, Periods};
 use crate::random::Random;
@@ -129,23 +129,41 @@ pub fn rate_and_table(r: &mut Random, mode: u16, tables: u16) -> (u16, u16) {
 /// One day type, or any.
 fn day_mask(r: &mut Random) -> u16 {
     if r.percent(50) {
-        1 << r.number(0, 7)
+        one_day(r)
     } else {
         r.number(1, 255)
     }
 }
 
+fn one_day(r: &mut Random) -> u16 {
+    1 << r.number(0, 7)
+}
+
+/// The day types of a plan's entries: in every other plan one alone, or one or two, so that entries of many days before stay in force;
+/// else mostly all.
+fn masks(r: &mut Random, many: u16) -> Vec<u16> {
+    let (one, other) = (one_day(r), one_day(r));
+    let most = r.pick(&[255, 255, 127, 0]);
+    let kind = r.from(0, 9);
+    let mask = |_| match kind {
+        0..=2 => one,
+        3 | 4 => r.pick(&[one, other, one | other]),
+        _ if most != 0 && r.percent(70) => most,
+        _ => day_mask(r),
+    };
+    (0..many).map(mask).collect()
+}
+
 /// Entries on few distinct starts.
 pub fn entries(r: &mut Random, starts: &[u16], tables: u16) -> Vec<[u16; 5]> {
-    let days = r.pick(&[255, 255, 127, 0]);
-    (0..rows(r, 16))
-        .map(|_| {
-            let mask = if days != 0 && r.percent(70) { days } else { day_mask(r) };
-            let mode = r.pick(&[0, 1, 2, 3, 3, 3, 3, 3]);
-            let (rate, table) = rate_and_table(r, mode, tables);
-            [mask, r.pick(starts), mode, rate, table]
-        })
-        .collect()
+    let many = rows(r, 16);
+    let masks = masks(r, many);
+    let entry = |mask| {
+        let mode = r.pick(&[0, 1, 2, 3, 3, 3, 3, 3]);
+        let (rate, table) = rate_and_table(r, mode, tables);
+        [mask, r.pick(starts), mode, rate, table]
+    };
+    masks.into_iter().map(entry).collect()
 }
 
 /// The weeks that name this date in its month: its own, and 5 where it is the final one.
@@ -198,12 +216,19 @@ fn any_holiday(r: &mut Random) -> [u16; 4] {
     }
 }
 
+/// The date itself, or one of the nine days before it.
+fn up_to(r: &mut Random, date: Date) -> Date {
+    let back = r.pick(&[0, 0, 0, 0, 0, 0, 1, 1, 1, 2, 3, 4, 5, 6, 7, 8, 9]);
+    shifted(date, -back).expect("December 1999 is walked")
+}
+
+/// Holidays on a date and the days before it, or right beside them.
 pub fn holidays(r: &mut Random, date: Date) -> Vec<[u16; 4]> {
-    let hitting = r.pick(&[0, 0, 10, 30]);
+    let hitting = r.pick(&[0, 10, 30, 50]);
     (0..rows(r, 16))
-        .map(|_| match r.from(1, 100) {
-            x if x <= hitting => hit(r, date),
-            x if x <= 60 => miss(r, date),
+        .map(|_| match (r.from(1, 100), up_to(r, date)) {
+            (x, day) if x <= hitting => hit(r, day),
+            (x, day) if x <= 70 => miss(r, day),
             _ => any_holiday(r),
         })
         .collect()
@@ -234,11 +259,11 @@ fn levels(r: &mut Random, x: Option<Measures>, tables: u16) -> Vec<[u16; 5]> {
 
 // Clocks and commands in range.
 
-/// Dates at the ends of months and years, 29 February, and any.
+/// Dates at the ends of months and years, 29 February, the first days of 2000, of March and of any month, and any.
 pub fn date(r: &mut Random) -> Date {
     let year = r.edged(2000, 2099);
     let month = r.number(1, 12);
-    match r.from(0, 19) {
+    match r.from(0, 23) {
         0 => Date { year: 2000, month: 1, day: 1 },
         1 => Date { year: 2099, month: 12, day: 31 },
         2 => Date { year, month: 1, day: 1 },
@@ -256,21 +281,26 @@ pub fn date(r: &mut Random) -> Date {
                 Date { year, month: 11, day }
             }
         }
+        9 => Date { year: 2000, month: 1, day: r.number(1, 9) },
+        10 => Date { year: r.pick(&[year, year / 4 * 4]), month: 3, day: r.number(1, 8) },
+        11 => Date { year, month: r.pick(&[1, month]), day: r.number(1, 8) },
         _ => Date { year, month, day: r.number(1, month_length(year, month)) },
     }
 }
 
-/// Tenths about the start of an entry, and any.
+/// Tenths about midnight and the start of an entry, and any.
 pub fn tenth(r: &mut Random, starts: &[u16]) -> u32 {
     let start = r.pick(starts) as u32 * 600;
-    match r.from(0, 9) {
-        0 => 0,
-        1 => 863_999,
-        2 | 3 => start,
-        4 => start.saturating_sub(1),
-        5 => start + 599,
-        6 => start + 1,
-        7 => r.from(start as u64, 863_999) as u32,
+    match r.from(0, 12) {
+        0 => r.pick(&[0, 0, 1, 599, 600]),
+        1 | 2 => r.from(0, 1800) as u32,
+        3 => 863_999 - r.pick(&[0, 0, 1, 20, 150]),
+        4 | 5 => start,
+        6 => start.saturating_sub(1),
+        7 => start + 599,
+        8 => start + 1,
+        9 => r.from(0, start as u64) as u32,
+        10 => r.from(start as u64, 863_999) as u32,
         _ => r.from(0, 863_999) as u32,
     }
 }

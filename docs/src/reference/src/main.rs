@@ -1,8 +1,9 @@
-//! Document 01 in plain Rust, with the preemption and the nearest cycle of document 02. `reference NAME` writes test inputs and what they
-//! should give:
+//! Document 01 in plain Rust, with the preemption, the nearest cycle and the plans past midnight of document 02. `reference NAME` writes
+//! test inputs and what they should give:
 //!
 //! - `site-bounds stdin`, `site-bounds stdout`: the files of `crates/site_bounds`.
 //! - `call-cases stdin`, `call-cases stdout`: the files of `crates/call_cases`.
+//! - `call-cases tally`: how many of each kind are stored.
 //! - `random PROGRAM SEED FOLDER`: fresh cases of a seed for one of these two programs, as FOLDER/stdin, and what they give,
 //!   as FOLDER/stdout; prints how many of each kind they are.
 //! - `random timetable SEED FOLDER`: site files for the timetable program, FOLDER/0/site.bin and so on, and what it prints and explains of
@@ -28,6 +29,7 @@ mod diagnosis;
 mod files;
 mod group;
 mod lanes;
+mod midnight_cases;
 mod nearest_cases;
 mod output;
 mod periods;
@@ -118,6 +120,11 @@ fn main() -> Result<()> {
         [program @ ("site-bounds" | "call-cases"), stream @ ("stdin" | "stdout")] => {
             let (cases, answers) = cases_of(program, None, &mut Tally::default());
             out.write_all(if stream == "stdin" { framed(&cases) } else { answers.into_bytes() }.as_slice())
+        }
+        ["call-cases", "tally"] => {
+            let tally = &mut Tally::default();
+            cases_of("call-cases", None, tally);
+            out.write_all(tally.print().as_bytes())
         }
         ["random", program @ ("site-bounds" | "call-cases"), seed, folder] => {
             let tally = &mut Tally::default();

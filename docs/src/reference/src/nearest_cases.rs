@@ -20,7 +20,7 @@ const SHARED: [&[u16]; 3] = [&[320, 576, 700, 810, 879, 960, 1600], &[384, 640],
 const SOURCED: [u16; 4] = [700, 960, 576, 810];
 
 /// A green, a yellow and a red of at least 10 ticks each, and the shortest startup.
-fn quick(n: u16, mode: u16, v: u16) -> Site {
+pub fn quick(n: u16, mode: u16, v: u16) -> Site {
     with_timings(&[(0, n), (1, mode), (2, v), (5, 10), (6, 10), (7, 10), (8, 10), (9, 10), (10, 10), (13, 1)])
 }
 
@@ -28,7 +28,7 @@ fn quick(n: u16, mode: u16, v: u16) -> Site {
 const RELEASED: u16 = 102;
 
 /// All lanes in demand, and a vehicle on each at every tick: greens end at their minimum.
-fn passing(manual: Command) -> Input {
+pub fn passing(manual: Command) -> Input {
     Input { passage: [1; 4], ..in_demand(manual) }
 }
 

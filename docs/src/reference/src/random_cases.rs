@@ -8,7 +8,7 @@ use crate::random::Random;
 use crate::site::{bytes, Site, TIMINGS, UNUSED};
 use crate::tick::{Input, State};
 use crate::tick_cases::{
-    command, damage_input, fixed, jump, quiet, random_run, samples, setting, short_timings, strange_state,
+    after, command, damage_input, fixed, jump, of_today, quiet, random_run, samples, setting, short_timings, strange_state,
     strange_states, Setting,
 };
 use crate::wanted::lanes;
@@ -231,17 +231,17 @@ fn busy_run(r: &mut Random, s: &Setting) -> Vec<Op> {
         if r.percent(3) {
             input.commands = [command(r, s, 40), command(r, s, 60)];
         }
-        if r.percent(1) || input.clock.tenth > 863_990 {
+        if r.percent(1) {
             input.clock = jump(r, s);
         }
-        let length = r.number(1, 3);
+        let length = of_today(input.clock, r.number(1, 3));
         let (preemption, count) = calls.next(r, length);
         input.preemption = preemption;
         // at times many vehicles
         let few = r.pick(&[1, 6, 6]);
         samples(r, s, few, &mut input);
         ops.push(Op::Ticks(count, input));
-        input.clock.tenth += count as u32;
+        input.clock = after(r, s, input.clock, count);
     }
     ops.push(any_poll(r, s));
     ops

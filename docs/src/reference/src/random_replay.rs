@@ -10,7 +10,7 @@ use crate::row;
 use crate::site::bytes;
 use crate::tally::Tally;
 use crate::tick::Input;
-use crate::tick_cases::{command, damage_input, jump, samples, Setting};
+use crate::tick_cases::{after, command, damage_input, jump, samples, Setting};
 use crate::wanted::lanes;
 
 /// Runs of each kind in one seed.
@@ -34,7 +34,7 @@ fn words(input: &Input, n: usize, m: usize) -> Vec<Vec<u8>> {
     words
 }
 
-/// So many ticks, a tenth apart but for a jump now and then.
+/// So many ticks, a tenth apart, over midnight too, but for a jump now and then.
 fn inputs(r: &mut Random, s: &Setting, many: usize) -> Vec<Input> {
     let mut input = sound_input(r, s);
     let mut calls = Calls::new(r, s, 1);
@@ -43,7 +43,7 @@ fn inputs(r: &mut Random, s: &Setting, many: usize) -> Vec<Input> {
         if r.percent(2) {
             input.commands = [command(r, s, 40), command(r, s, 60)];
         }
-        if r.percent(1) || input.clock.tenth >= 863_999 {
+        if r.percent(1) {
             input.clock = jump(r, s);
         }
         samples(r, s, 2, &mut input);
@@ -53,7 +53,7 @@ fn inputs(r: &mut Random, s: &Setting, many: usize) -> Vec<Input> {
             damage_input(r, s, &mut sent);
         }
         out.push(sent);
-        input.clock.tenth += 1;
+        input.clock = after(r, s, input.clock, 1);
     }
     out
 }
@@ -175,5 +175,7 @@ pub fn answer(run: &Run, tally: &mut Tally) -> Replayed {
     tally.count("replays with something refused", !said.explanation.is_empty() as u64);
     tally.count("replays", 1);
     said.watch.count(tally);
+    said.in_force.count("replayed ticks", tally);
+    said.in_force.count_midnights("replayed ticks", tally);
     said
 }

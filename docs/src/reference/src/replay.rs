@@ -5,18 +5,21 @@ use crate::periods::halves;
 use crate::preemption::Watch;
 use crate::row;
 use crate::site::{self, Site};
+use crate::tally::InForce;
 use crate::text;
 use crate::tick::{poll_record, power_up, tick, Answer, Input};
 use crate::tick_diagnosis;
 use crate::wanted::{half_goes_up, lanes};
 
 /// What a run writes: on standard output, and on standard error the line that explains what was refused, if anything was. With its calls,
-/// and how many of its ticks have a cycle that is a half going up.
+/// how many of its ticks have a cycle that is a half going up, and what entries were in force.
+#[derive(Default)]
 pub struct Replayed {
     pub output: String,
     pub explanation: String,
     pub watch: Watch,
     pub halves: u64,
+    pub in_force: InForce,
 }
 
 const HEADING: &str = "tick refusal interval age lanes lower sign day entry source level wish rate cycle released\n";
@@ -112,28 +115,29 @@ fn lines(text: &[u8]) -> Vec<&[u8]> {
 /// What a run at a site writes.
 fn run(site: &Site, text: &[u8]) -> Replayed {
     let (_, mut state) = power_up(Some(site));
-    let (mut output, mut explanation, mut watch, mut halves) = (HEADING.to_string(), String::new(), Watch::default(), 0);
+    let mut said = Replayed { output: HEADING.to_string(), ..Replayed::default() };
     for (i, line) in lines(text).into_iter().enumerate() {
         let input = match input(site, line) {
             Ok(input) => input,
             Err(why) => {
-                output += &format!("line {} is no tick: {why}\n", i + 1);
+                said.output += &format!("line {} is no tick: {why}\n", i + 1);
                 break;
             }
         };
         let answer = tick(Some(site), &state, &input);
-        output += &tick_lines(site, i + 1, &answer);
+        said.output += &tick_lines(site, i + 1, &answer);
         // the first refused tick alone is explained
-        if answer.refusal != 0 && explanation.is_empty() {
-            explanation = tick_diagnosis::line(answer.refusal, &input, lanes(site), i + 1);
+        if answer.refusal != 0 && said.explanation.is_empty() {
+            said.explanation = tick_diagnosis::line(answer.refusal, &input, lanes(site), i + 1);
         }
         if answer.refusal == 0 {
-            watch.tick(site, input.preemption, answer.state.interval);
+            said.watch.tick(site, input.preemption, answer.state.interval);
         }
-        halves += half_goes_up(site, answer.decision.wish) as u64;
+        said.halves += half_goes_up(site, answer.decision.wish) as u64;
+        said.in_force.note(input.clock, &answer.decision);
         state = answer.state;
     }
-    Replayed { output, explanation, watch, halves }
+    said
 }
 
 /// What the program writes of a site file of that name, and ticks.
@@ -141,7 +145,7 @@ pub fn print(file: &[u8], name: &str, text: &[u8]) -> Replayed {
     match site::read(file) {
         Ok(site) => run(&site, text),
         Err(refused) => {
-            Replayed { output: text::refusal(refused), explanation: diagnosis::of(file, name), watch: Watch::default(), halves: 0 }
+            Replayed { output: text::refusal(refused), explanation: diagnosis::of(file, name), ..Replayed::default() }
         }
     }
 }

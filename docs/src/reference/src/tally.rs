@@ -1,13 +1,18 @@
 //! How much of each kind went through.
 
+use crate::calendar::{later, Clock};
+use crate::wanted::Decision;
 use std::collections::BTreeMap;
 
 #[derive(Default)]
-pub struct Tally(BTreeMap<&'static str, u64>);
+pub struct Tally(BTreeMap<String, u64>);
 
 impl Tally {
-    pub fn count(&mut self, what: &'static str, many: u64) {
-        *self.0.entry(what).or_default() += many;
+    pub fn count(&mut self, what: &str, many: u64) {
+        match self.0.get_mut(what) {
+            Some(sum) => *sum += many,
+            None => drop(self.0.insert(what.to_string(), many)),
+        }
     }
 
     /// What a call or a file was refused for; 0 is nothing. A spoilt site or state is counted where it is given.
@@ -26,5 +31,45 @@ impl Tally {
     /// A line for each kind: how many, a blank, and the kind.
     pub fn print(&self) -> String {
         self.0.iter().map(|(what, many)| format!("{many} {what}\n")).collect()
+    }
+}
+
+/// What entries were in force, by how many days ago they began, and how often a clock went over midnight.
+#[derive(Default)]
+pub struct InForce {
+    days_ago: [u64; 8],
+    none: u64,
+    before: Option<Clock>,
+    midnights: u64,
+}
+
+impl InForce {
+    /// A decision at a clock; where something was refused it is not counted.
+    pub fn note(&mut self, clock: Clock, decision: &Decision) {
+        if decision.day.is_none() {
+            return;
+        }
+        match decision.entry {
+            0 => self.none += 1,
+            _ => self.days_ago[decision.days_ago] += 1,
+        }
+        let over = clock.tenth == 0 && self.before.and_then(|before| later(before, 1)) == Some(clock);
+        self.midnights += over as u64;
+        self.before = Some(clock);
+    }
+
+    /// Counts them as decisions, as ticks or as replayed ticks.
+    pub fn count(&self, what: &str, tally: &mut Tally) {
+        for (days, many) in self.days_ago.iter().enumerate().skip(1) {
+            let plural = if days == 1 { "" } else { "s" };
+            tally.count(&format!("{what} whose entry began {days} day{plural} ago"), *many);
+        }
+        tally.count(&format!("{what} whose entry began on an earlier day"), self.days_ago[1..].iter().sum());
+        tally.count(&format!("{what} with no entry in force"), self.none);
+    }
+
+    /// The same of the ticks of a run: how many are the first of a day, right after the last of the day before.
+    pub fn count_midnights(&self, what: &str, tally: &mut Tally) {
+        tally.count(&format!("{what} that go over midnight"), self.midnights);
     }
 }

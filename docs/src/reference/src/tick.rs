@@ -163,7 +163,7 @@ pub struct Answer {
     pub released: usize,
 }
 
-pub const NOTHING_DECIDED: Decision = Decision { day: None, entry: 0, source: "plan", level: 0, wish: Wish::Dark };
+pub const NOTHING_DECIDED: Decision = Decision { day: None, entry: 0, days_ago: 0, source: "plan", level: 0, wish: Wish::Dark };
 
 /// The state as it came, and nothing decided.
 fn refused(refusal: u8, indications: Indications, state: &State) -> Answer {

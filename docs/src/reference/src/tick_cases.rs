@@ -2,7 +2,7 @@
 //! The cases are made without the rules, but for the cycle that some aim at, which is the rate sheet's: a change of another rule changes
 //! what they print, never the cases.
 
-use crate::calendar::{Clock, Date};
+use crate::calendar::{later, shifted, Clock, Date, TENTHS};
 use crate::call_run::{from_power_up, timing, Op};
 use crate::cases;
 use crate::files::site_a;
@@ -806,7 +806,9 @@ pub struct Setting {
 pub fn setting(r: &mut Random, timings: impl Fn(&mut Random) -> Vec<u16>) -> Setting {
     let (starts, tables) = (cases::starts(r), r.number(1, 4));
     let date = cases::date(r);
-    let dates = vec![date, cases::date(r), date];
+    // the days about it, and any
+    let mut dates: Vec<Date> = (-2..=9).filter_map(|by| shifted(date, by)).filter(|d| d.year >= 2000).collect();
+    dates.extend([date, date, cases::date(r)]);
     let timings = timings(r);
     let entries = cases::entries(r, &starts, tables);
     let holidays = cases::holidays(r, date);
@@ -845,8 +847,21 @@ fn sample(r: &mut Random, s: &Setting, count: u16) -> Sample {
     }
 }
 
+/// Mostly to another of some days in a row; at times to a moment before midnight.
 pub fn jump(r: &mut Random, s: &Setting) -> Clock {
-    Clock { date: r.pick(&s.dates), tenth: cases::tenth(r, &s.starts) }
+    let before_midnight = TENTHS - r.from(1, 300) as u32;
+    let tenth = if r.percent(15) { before_midnight } else { cases::tenth(r, &s.starts) };
+    Clock { date: r.pick(&s.dates), tenth }
+}
+
+/// Of so many ticks those that fit into the day.
+pub fn of_today(clock: Clock, ticks: u16) -> u16 {
+    (ticks as u32).min(TENTHS - clock.tenth) as u16
+}
+
+/// The clock after so many ticks, over midnight as a clock goes; at the end of 2099 it jumps.
+pub fn after(r: &mut Random, s: &Setting, clock: Clock, ticks: u16) -> Clock {
+    later(clock, ticks as u32).unwrap_or_else(|| jump(r, s))
 }
 
 /// For so many ticks with one input: where they are few, vehicles are frequent.
@@ -929,16 +944,16 @@ pub fn random_run(r: &mut Random, s: &Setting) -> Vec<u8> {
         if r.percent(25) {
             input.commands = [command(r, s, 40), command(r, s, 60)];
         }
-        if r.percent(15) || input.clock.tenth > 863_999 {
+        if r.percent(15) {
             input.clock = jump(r, s);
         }
-        let length = length(r);
+        let length = of_today(input.clock, length(r));
         let (preemption, count) = calls.next(r, length);
         input.preemption = preemption;
         samples(r, s, count, &mut input);
         interruption(r, s, &input, &mut ops);
         ops.push(Op::Ticks(count, input));
-        input.clock.tenth += count as u32;
+        input.clock = after(r, s, input.clock, count);
     }
     ops.push(POLL);
     from_power_up(&bytes(&s.site), &ops)

@@ -1,6 +1,7 @@
-//! 'Day and entry' and 'What is wanted' of document 01, and the cycle, to the nearest tick by document 02.
+//! 'Day and entry' and 'What is wanted' of document 01, with plans that run past midnight by document 02; and the cycle, to the nearest
+//! tick by document 02.
 
-use crate::calendar::{day_type, Clock};
+use crate::calendar::{day_type, days_back, Clock};
 use crate::periods::{Counts, Periods};
 use crate::site::{rate_ok, table_ok, Site, UNUSED};
 
@@ -21,10 +22,12 @@ pub enum Wish {
 
 #[derive(Clone, Copy, Debug)]
 pub struct Decision {
-    /// None where nothing is decided.
+    /// Today's; none where nothing is decided.
     pub day: Option<usize>,
     /// The entry's place in the file from 1, 0 for none.
     pub entry: usize,
+    /// How many days ago that entry began; 0 without one.
+    pub days_ago: usize,
     pub source: &'static str,
     /// The level's place in the file from 1, 0 for none.
     pub level: usize,
@@ -60,16 +63,27 @@ pub fn half_goes_up(site: &Site, wish: Wish) -> bool {
     matches!(wish, Wish::Metering(rate) if ends_in_half(site, rate))
 }
 
-/// Among today's entries that have started, the latest start, and of equal ones the last filed.
-fn entry_in_force(site: &Site, day: usize, tenth: u32) -> usize {
-    let minute = (tenth / 600) as u16;
-    let places = 1..=site.entries.len();
-    let started = places.filter(|p| {
-        let [days, start, ..] = site.entries[p - 1];
-        days & (1 << day) != 0 && start <= minute
+/// Among the entries of a day type whose start counts, the latest start, and among equal starts the one filed last.
+fn latest_start(site: &Site, day: usize, counts: impl Fn(u16) -> bool) -> Option<usize> {
+    let those = (1..=site.entries.len()).filter(|place| {
+        let [days, start, ..] = site.entries[place - 1];
+        days & (1 << day) != 0 && counts(start)
     });
     // of equal starts `max_by_key` takes the last
-    started.max_by_key(|p| site.entries[p - 1][1]).unwrap_or(0)
+    those.max_by_key(|place| site.entries[place - 1][1])
+}
+
+/// The place of the entry in force, and how many days ago it began. With no entry begun today it is the latest start of yesterday, of the
+/// whole day; with none there either, that of the day before it, and so on, each day with its own day type.
+fn entry_in_force(site: &Site, clock: Clock, day: usize) -> Option<(usize, usize)> {
+    let minute = (clock.tenth / 600) as u16;
+    if let Some(place) = latest_start(site, day, |start| start <= minute) {
+        return Some((place, 0));
+    }
+    days_back(clock.date).zip(1..).find_map(|(date, days_ago)| {
+        let place = latest_start(site, day_type(date, &site.holidays), |_| true)?;
+        Some((place, days_ago))
+    })
 }
 
 pub fn command_ok(c: Command) -> bool {
@@ -134,7 +148,7 @@ fn wish(site: &Site, mode: u16, rate: u16, table: u16, p: &Periods) -> (usize, W
 /// A manual command of kind 1-4 rules; else communications; else the entry; with none, dark.
 pub fn decide(site: &Site, clock: Clock, commands: [Command; 2], p: &Periods) -> Decision {
     let day = day_type(clock.date, &site.holidays);
-    let entry = entry_in_force(site, day, clock.tenth);
+    let (entry, days_ago) = entry_in_force(site, clock, day).unwrap_or((0, 0));
     let ruling = ["manual", "centre"].into_iter().zip(commands).find(|(_, c)| c.kind != 0);
     let (source, (level, wish)) = match ruling {
         Some((source, c)) => (source, wish(site, c.kind - 1, c.rate, c.table, p)),
@@ -144,5 +158,5 @@ pub fn decide(site: &Site, clock: Clock, commands: [Command; 2], p: &Periods) ->
             ("plan", wish(site, mode, rate, table, p))
         }
     };
-    Decision { day: Some(day), entry, source, level, wish }
+    Decision { day: Some(day), entry, days_ago, source, level, wish }
 }
