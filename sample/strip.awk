@@ -1,6 +1,6 @@
 # A replay for the eye: `awk -f strip.awk TICKS REPLAY`. The lamps of each lane over time, a letter for half a second (. dark, R red,
 # Y yellow, G green), a line where they stay as they are, and between them what changed: the entry in force or the day type, what is
-# wanted, a preemption call, the interval. A blank line stands where the clock jumps; midnight is no jump.
+# wanted, a preemption call, the interval, the bypass. A blank line stands where the clock jumps; midnight is no jump.
 function clock(tenth) {
     return sprintf("%02d:%02d:%04.1f", tenth / 36000, tenth / 600 % 60, tenth % 600 / 10)
 }
@@ -43,13 +43,14 @@ BEGIN {
     split("0 31 59 90 120 151 181 212 243 273 304 334", before, " ")
     wish = interval = entry = day = ""
     calling = 0
+    bypass = "none"
 }
 
-# preemption stands before the two commands of three words each
+# preemption and the bus call stand before the two commands of three words each
 FNR == NR {
     tenth[FNR] = $4
     tenths[FNR] = 864000 * day_number($1, $2, $3) + $4
-    preemption[FNR] = $(NF - 6)
+    preemption[FNR] = $(NF - 7)
     next
 }
 
@@ -69,7 +70,9 @@ $1 == "refused" || $1 == "line" { print; exit }
     if ($12 " " $13 != wish) say("wanted: " ($12 == "meter" ? "metering at " $13 ", a green every " $14 / 10 " s" : $12) ($11 > 0 ? ", by level " $11 : ""))
     if (preemption[$1] != calling) say(preemption[$1] == 1 ? "preemption: a fire truck calls" : "preemption ends")
     if ($3 != interval) say("interval " $3 ", " names[$3 + 1])
+    if ($16 != bypass) say($16 == "none" ? "bypass ends" : "bypass: " (bypass == "none" ? "a bus calls, " : "") $16)
     calling = preemption[$1]
+    bypass = $16
     entry = $9
     day = $8
     wish = $12 " " $13

@@ -1,10 +1,12 @@
 // The numbers of an operation; its kind is number 0. Of ticks: their count is 1, the first one's row
 // begins at 2. Of a decision: its row begins at 1. Of a state: the interval is 1, the lanes begin
-// at 3, the open period at 21, the serial is 66 and the completed period begins at 68.
+// at 3, the bypass at 21, the open period at 24, the serial is 69 and the completed period begins
+// at 71.
 ghost use mathlib.Core.Path.{_≡_};
 ghost use Prim.Native.Nat.{_≤_};
 ghost use lib.ListN.{length};
 ghost use Rattle.tick_row.specs.Row.{longestRow};
+use bypass::Bypass;
 use calendar::Clock;
 use group::Group;
 use lanes::Lanes;
@@ -49,7 +51,7 @@ fn six(op: &[u8], at: usize) -> [u16; 6]
 }
 
 fn six_long(op: &[u8], at: usize) -> [u32; 6]
-    requires { ⌜ at ≤ 100 ⌝ }
+    requires { ⌜ at ≤ 150 ⌝ }
 {
     [
         long_at(op, at),
@@ -96,6 +98,7 @@ pub fn later(input: Input, ticks: u16) -> Input {
     let date = clock.date;
     let lanes = input.lanes;
     let main = input.main;
+    let calls = input.calls;
     let manual = input.manual;
     let centre = input.centre;
     Input {
@@ -105,7 +108,7 @@ pub fn later(input: Input, ticks: u16) -> Input {
         },
         lanes,
         main,
-        preemption: input.preemption,
+        calls,
         manual,
         centre,
     }
@@ -124,8 +127,23 @@ fn lanes(op: &[u8]) -> Lanes {
     }
 }
 
+// Any number but 0 is true.
+fn flag(op: &[u8], i: usize) -> bool
+    requires { ⌜ i ≤ 200 ⌝ }
+{
+    numbers::word(op, i) != 0
+}
+
+fn bypass(op: &[u8]) -> Bypass {
+    Bypass {
+        kept: flag(op, 21),
+        mark: flag(op, 22),
+        timer: numbers::word(op, 23),
+    }
+}
+
 fn counts(op: &[u8], at: usize) -> Counts
-    requires { ⌜ at ≤ 68 ⌝ }
+    requires { ⌜ at ≤ 71 ⌝ }
 {
     Counts {
         passages: four(op, at),
@@ -140,10 +158,10 @@ fn counts(op: &[u8], at: usize) -> Counts
 
 fn periods(op: &[u8]) -> Periods {
     Periods {
-        ticks: numbers::word(op, 21),
-        current: counts(op, 22),
-        serial: long_at(op, 66),
-        last: counts(op, 68),
+        ticks: numbers::word(op, 24),
+        current: counts(op, 25),
+        serial: long_at(op, 69),
+        last: counts(op, 71),
     }
 }
 
@@ -153,6 +171,7 @@ pub fn state(op: &[u8]) -> State {
             interval: numbers::word(op, 1),
             age: numbers::word(op, 2),
             lanes: lanes(op),
+            bypass: bypass(op),
         },
         periods: periods(op),
     }

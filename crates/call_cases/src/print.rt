@@ -1,4 +1,5 @@
 // The printed lines. Each word of a line stands behind a blank but the first.
+use bypass::Bypass;
 use group::Group;
 use lanes::Lanes;
 use output::Written;
@@ -14,6 +15,10 @@ fn put_word(out: &mut [u8], at: usize, n: u16) -> usize {
 
 fn put_long(out: &mut [u8], at: usize, n: u32) -> usize {
     phrases::put_blank_and_decimal(out, at, n as u64)
+}
+
+fn put_flag(out: &mut [u8], at: usize, b: bool) -> usize {
+    put_word(out, at, if b { 1 } else { 0 })
 }
 
 fn put_four(out: &mut [u8], at: usize, v: [u16; 4]) -> usize {
@@ -56,11 +61,19 @@ fn put_lanes(out: &mut [u8], at: usize, s: Lanes) -> usize {
     put_word(out, e, s.last)
 }
 
+fn put_bypass(out: &mut [u8], at: usize, b: Bypass) -> usize {
+    let k = put_flag(out, at, b.kept);
+    let m = put_flag(out, k, b.mark);
+    put_word(out, m, b.timer)
+}
+
 fn put_group(out: &mut [u8], at: usize, g: Group) -> usize {
     let a = put_word(out, at, g.interval);
     let b = put_word(out, a, g.age);
     let lanes = g.lanes;
-    put_lanes(out, b, lanes)
+    let c = put_lanes(out, b, lanes);
+    let bypass = g.bypass;
+    put_bypass(out, c, bypass)
 }
 
 fn put_counts(out: &mut [u8], at: usize, c: Counts) -> usize {
@@ -125,7 +138,8 @@ pub fn same(a: Line, b: Line) -> bool {
     check::same(&s, &t)
 }
 
-// Refusal, interval, all four lanes' lamps, what was decided, cycle and the lane released.
+// Refusal, interval, all four lanes' lamps, what was decided, cycle, the lane released, and what
+// the bus bypass does.
 fn put_tick(out: &mut [u8], t: Ticked) -> usize {
     let a = phrases::put_blank_and_decimal(out, 0, t.refusal as u64);
     let state = t.state;
@@ -137,7 +151,9 @@ fn put_tick(out: &mut [u8], t: Ticked) -> usize {
     let d = tick_text::put_decision(out, c, decision);
     let e = put_word(out, d, t.cycle);
     let f = put_word(out, e, t.released);
-    text::put_byte(out, f, b'\n')
+    let doing = t.bypass;
+    let g = tick_text::put_bypass(out, f, doing);
+    text::put_byte(out, g, b'\n')
 }
 
 pub fn line_of(t: Ticked) -> Line {

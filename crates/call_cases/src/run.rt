@@ -158,16 +158,16 @@ fn run_op(run: Run, op: &[u8]) -> Run {
 
 // How many numbers an operation has; 0 for one that there is not.
 fn op_numbers(kind: u16) -> usize
-    ensures { λ r. ⌜ r ≤ 112 ⌝ }
+    ensures { λ r. ⌜ r ≤ 115 ⌝ }
 {
     match kind {
-        TICKS => 46,
-        STATE => 112,
+        TICKS => 47,
+        STATE => 115,
         DAMAGE => 4,
         REPAIR => 1,
         POWER_UP => 1,
         POLL => 2,
-        DECIDE => 13,
+        DECIDE => 14,
         WRITE => 2,
         _ => 0,
     }

@@ -15,7 +15,7 @@ fn count_at(place: usize, count: u16, value: u16) -> u16 {
     if place == 0 { value } else { count }
 }
 
-// The timings' count is always 15, and is not kept.
+// The timings' count is always 17, and is not kept.
 fn with_timing(mut site: Site, place: usize, value: u16) -> Site {
     let mut timings = site.timings;
     set_number(&mut timings, place, value);

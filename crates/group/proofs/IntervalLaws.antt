@@ -6,21 +6,24 @@ use mathlib.Core.List.{List}
 use native.Mathlib.Omega.{arith}
 use borrow.Author.Tests.{ltb-true, eqb-true, eqb-false, le-leb}
 use lib.Dec.{ltb, leb, eqb}
-use Rattle.inputs.specs.declared.Metered.{Metered}
 use Rattle.wanted.specs.declared.wish.Wish.{Wish}
 use Rattle.wanted.specs.declared.wish.Wish.the-variants.{Dark, Green, Metering, Clear}
 use Rattle.timings.specs.declared.Timings.{Timings}
 use Rattle.lanes.specs.declared.Lanes.{Lanes}
+use Rattle.lanes.specs.declared.Endings.{Endings}
 use Rattle.lanes.specs.Lanes.{lanesTick, lanesEntered}
 use Rattle.loops.proofs.Cases.{by-test}
 use Rattle.group.specs.declared.Group.{Group}
 use Rattle.group.specs.Intervals.{ageOf, timeOf, fromDark, fromGreen, fromMetering, successorOf, nextInterval}
 use Rattle.group.specs.Preemption.{isPreMetering, isHeld, steeredWish}
-use Rattle.group.specs.Group.{allRed, ordinaryInterval, intervalOf, lanesIn, lanesMoved}
+use Rattle.group.specs.Group.{allRed, ordinaryInterval, intervalOf, lanesIn}
 
 -- The intervals in which lanes show their own colours.
 abbrev pub isOwn : ℕ → Bool
 isOwn interval = eqb interval 7 || eqb interval 8
+
+pub seven-is-own : {k : ℕ} → k ≡ 7 → isOwn k ≡ false → ⊥
+seven-is-own e o = true≢false (rw e at o)
 
 pub age-most : (age : ℕ) → ageOf age ≤ 36000
 unfolding ageOf
@@ -112,13 +115,13 @@ leads-on t preemption wish g h =
     (λ e. rw e (leads t (steeredWish preemption wish) (ageOf (g .age)) (allRed (g .lanes) (t .lanes)) (g .interval) h))
 
 -- The lanes as a tick's lane intervals leave them, by cases.
-module _ (t : Timings) (passage : List ℕ) (wish : Wish) (before : ℕ) (s : Lanes) (P : ℕ → Lanes → Type 0) where
+module _ (t : Timings) (endings : Endings) (passage : List ℕ) (wish : Wish) (before : ℕ) (s : Lanes) (P : ℕ → Lanes → Type 0) where
   cases : (now : ℕ) → Leads wish (allRed s (t .lanes)) before now
-      → (before ≡ 7 → fromMetering wish ≡ 7 → P 7 (lanesTick t s passage))
+      → (before ≡ 7 → fromMetering wish ≡ 7 → P 7 (lanesTick t endings s passage))
       → (eqb before 7 ≡ false → P 7 (lanesEntered (t .lanes)))
-      → (isOwn before ≡ true → P 8 (lanesTick t s passage))
+      → (isOwn before ≡ true → P 8 (lanesTick t endings s passage))
       → ((k : ℕ) → k ≤ 9 → isOwn k ≡ false → (isOwn before ≡ true → allRed s (t .lanes) ≡ true) → P k s)
-      → P now (lanesIn t passage before now s)
+      → P now (lanesIn t endings passage before now s)
   unfolding lanesIn
   cases now w a b c d =
       by-test (eqb now 7)
@@ -130,12 +133,11 @@ module _ (t : Timings) (passage : List ℕ) (wish : Wish) (before : ℕ) (s : La
       (λ f. let q = eqb-true now 8 f in rw q (c (w .to-eight q)))
       (λ f. rw (e, f) (d now (w .most) (rw (e, f)) (w .to-other (rw (e, f))))))
 
-module _ (t : Timings) (preemption : ℕ) (wish : Wish) (samples : Metered) (g : Group) (h : g .interval ≤ 9) (P : ℕ → Lanes → Type 0) where
-  pub lanes-cases : (g .interval ≡ 7 → fromMetering (steeredWish preemption wish) ≡ 7 → P 7 (lanesTick t (g .lanes) (samples .passage)))
+module _ (t : Timings) (preemption : ℕ) (wish : Wish) (endings : Endings) (passage : List ℕ) (g : Group) (h : g .interval ≤ 9) (P : ℕ → Lanes → Type 0) where
+  pub lanes-cases : (g .interval ≡ 7 → fromMetering (steeredWish preemption wish) ≡ 7 → P 7 (lanesTick t endings (g .lanes) passage))
       → (eqb (g .interval) 7 ≡ false → P 7 (lanesEntered (t .lanes)))
-      → (isOwn (g .interval) ≡ true → P 8 (lanesTick t (g .lanes) (samples .passage)))
+      → (isOwn (g .interval) ≡ true → P 8 (lanesTick t endings (g .lanes) passage))
       → ((k : ℕ) → k ≤ 9 → isOwn k ≡ false → (isOwn (g .interval) ≡ true → allRed (g .lanes) (t .lanes) ≡ true) → P k (g .lanes))
-      → P (intervalOf t preemption wish g) (lanesMoved t preemption wish samples g)
-  unfolding lanesMoved
+      → P (intervalOf t preemption wish g) (lanesIn t endings passage (g .interval) (intervalOf t preemption wish g) (g .lanes))
   lanes-cases a b c d =
-      cases t (samples .passage) (steeredWish preemption wish) (g .interval) (g .lanes) P _ (leads-on t preemption wish g h) a b c d
+      cases t endings passage (steeredWish preemption wish) (g .interval) (g .lanes) P _ (leads-on t preemption wish g h) a b c d

@@ -10,18 +10,25 @@ use lib.ListN.{getD}
 use Rattle.loops.specs.Any.{anyFrom}
 use Rattle.loops.proofs.AnyLaws.{neither, none-of, any-of-none}
 use Rattle.inputs.specs.declared.Metered.{Metered}
+use Rattle.inputs.specs.declared.Calls.{Calls}
 use Rattle.wanted.specs.declared.wish.Wish.{Wish}
 use Rattle.timings.specs.declared.Timings.{Timings}
 use Rattle.lanes.specs.declared.Lane.{Lane}
 use Rattle.lanes.specs.declared.Lanes.{Lanes}
+use Rattle.lanes.specs.declared.Ending.{Ending}
+use Rattle.lanes.specs.declared.Endings.{Endings}
 use Rattle.lanes.specs.Intervals.{lane, riseOf, laneTick}
 use Rattle.lanes.specs.Lanes.{laneOf, lanesTick, lanesEntered}
 use Rattle.loops.proofs.Cases.{by-test}
 use Rattle.lanes.proofs.LaneLaws.{rise-min, passages-most, tick-cases, lane-in, lane-out, offset-ticked, last-ticked, entered-in, entered-out, offset-entered, last-entered}
-use Rattle.release.specs.Release.{releasedOf, releaseOf}
+use Rattle.release.specs.Release.{releaseOf}
 use Rattle.release.proofs.ReleaseLaws.{none-released, lane-goes, lane-stays, last-released, offset-released, released-in}
+use Rattle.bypass.specs.declared.Bypass.{Bypass}
+use Rattle.bypass.specs.Lanes.{hasPassed, endingsOf}
+use Rattle.bypass.specs.Range.{bypassSpoilt}
+use Rattle.bypass.proofs.BypassLaws.{BypassGood, bypass-good, good-bypass, bypass-keeps, released-most}
 use Rattle.group.specs.declared.Group.{Group}
-use Rattle.group.specs.Group.{allRed, intervalOf, lanesMoved, releasedIn, groupOf, movedWith, movedOf}
+use Rattle.group.specs.Group.{allRed, intervalOf, bypassIn, lanesMoved, releasedIn, groupOf, movedWith, movedOf}
 use Rattle.group.specs.Range.{colourSpoilt, laneSpoilt, laneKept, laneSpoiltAt, lanesSpoilt, groupSpoilt}
 use Rattle.group.proofs.IntervalLaws.{isOwn, age-most, lanes-cases}
 
@@ -130,48 +137,58 @@ module _ (interval : ℕ) (s : Lanes) (n : ℕ) where
             (λ e. let k = ltb-false i n e in beyond-at i k ∙ kept-none (laneOf s i) (g .beyond i (omega arith) k))),
       )
 
--- The group in range.
-pub record GroupGood (g : Group) (n : ℕ) : Type 0 where
+-- The group in range, at a site of n lanes with this priority lane.
+pub record GroupGood (g : Group) (n priority : ℕ) : Type 0 where
   pub interval : g .interval ≤ 9
   pub age : g .age ≤ 36000
   pub lanes : LanesGood (isOwn (g .interval)) (g .lanes) n
+  pub bypass : BypassGood (eqb (g .interval) 7) priority (g .bypass)
 
-pub group-good : (g : Group) (n : ℕ) → groupSpoilt g n ≡ false → GroupGood g n
-unfolding groupSpoilt
-group-good g n e =
-    let p = neither (ltb 9 (g .interval)) _ e in
-    let q = neither (ltb 36000 (g .age)) (lanesSpoilt (g .interval) (g .lanes) n) (p .1) in
-    record {
-      interval = ltb-false 9 (g .interval) (p .0);
-      age = ltb-false 36000 (g .age) (q .0);
-      lanes = lanes-good (g .interval) (g .lanes) n (q .1);
-    }
+module _ (g : Group) (n priority : ℕ) where
+  pub group-good : groupSpoilt g n priority ≡ false → GroupGood g n priority
+  unfolding groupSpoilt
+  group-good e =
+      let p = neither (ltb 9 (g .interval)) _ e in
+      let q = neither (ltb 36000 (g .age)) _ (p .1) in
+      let r = neither (lanesSpoilt (g .interval) (g .lanes) n) (bypassSpoilt (eqb (g .interval) 7) priority (g .bypass)) (q .1) in
+      record {
+        interval = ltb-false 9 (g .interval) (p .0);
+        age = ltb-false 36000 (g .age) (q .0);
+        lanes = lanes-good (g .interval) (g .lanes) n (r .0);
+        bypass = bypass-good (eqb (g .interval) 7) priority (g .bypass) (r .1);
+      }
 
-pub good-group : (g : Group) (n : ℕ) → GroupGood g n → groupSpoilt g n ≡ false
-unfolding groupSpoilt
-good-group g n v = rw (le-ltb _ _ (v .interval), le-ltb _ _ (v .age), good-lanes (g .interval) (g .lanes) n (v .lanes))
+  pub good-group : GroupGood g n priority → groupSpoilt g n priority ≡ false
+  unfolding groupSpoilt
+  good-group v =
+      rw (
+        le-ltb _ _ (v .interval),
+        le-ltb _ _ (v .age),
+        good-lanes (g .interval) (g .lanes) n (v .lanes),
+        good-bypass (eqb (g .interval) 7) priority (g .bypass) (v .bypass),
+      )
 
 -- A tick keeps a lane in range,
-pub lane-keeps : (t : Timings) (l : Lane) (passage : ℕ) → LaneGood true l → LaneGood true (laneTick t l passage)
-lane-keeps t l passage v =
+pub lane-keeps : (t : Timings) (ending : Ending) (l : Lane) (passage : ℕ) → LaneGood true l → LaneGood true (laneTick t ending l passage)
+lane-keeps t ending l passage v =
     let age : riseOf (l .age) ≤ 720 = omega (arith, rise-min (l .age)) in
     let counter : riseOf (l .counter) ≤ 720 = omega (arith, rise-min (l .counter)) in
     let passed = passages-most (l .passages) passage (v .passages) in
-    tick-cases t l passage (LaneGood true)
-    (λ c. record { age = omega arith; counter = counter; passages = passed; least = omega arith; most = omega arith; red = λ z. absurd (true≢false z) })
+    tick-cases t ending l passage (LaneGood true)
+    (λ c h. record { age = omega arith; counter = counter; passages = passed; least = omega arith; most = omega arith; red = λ z. absurd (true≢false z) })
     (λ c h. record { age = age; counter = counter; passages = passed; least = omega arith; most = omega arith; red = λ z. absurd (true≢false z) })
     (λ c h. record { age = omega arith; counter = counter; passages = v .passages; least = omega arith; most = omega arith; red = λ z. absurd (true≢false z) })
     (λ c h. record { age = age; counter = counter; passages = v .passages; least = omega arith; most = omega arith; red = λ z. absurd (true≢false z) })
     (λ c h. record { age = age; counter = counter; passages = v .passages; least = v .least; most = v .most; red = λ z. absurd (true≢false z) })
 
 -- and so it does all lanes;
-pub lanes-keep : (t : Timings) (s : Lanes) (passage : List ℕ) → LanesGood true s (t .lanes) → LanesGood true (lanesTick t s passage) (t .lanes)
-lanes-keep t s passage v = record {
-  offset = omega (arith, offset-ticked t s passage, rise-min (s .offset));
-  least = omega (arith, last-ticked t s passage, v .least);
-  most = omega (arith, last-ticked t s passage, v .most);
-  inside = λ i h k. rw (lane-in t s passage i h k) (lane-keeps t (laneOf s i) (getD passage i 0) (v .inside i h k));
-  beyond = λ i h k. lane-out t s passage i h k ∙ v .beyond i h k;
+pub lanes-keep : (t : Timings) (e : Endings) (s : Lanes) (passage : List ℕ) → LanesGood true s (t .lanes) → LanesGood true (lanesTick t e s passage) (t .lanes)
+lanes-keep t e s passage v = record {
+  offset = omega (arith, offset-ticked t e s passage, rise-min (s .offset));
+  least = omega (arith, last-ticked t e s passage, v .least);
+  most = omega (arith, last-ticked t e s passage, v .most);
+  inside = λ i h k. rw (lane-in t e s passage i h k) (lane-keeps t _ (laneOf s i) (getD passage i 0) (v .inside i h k));
+  beyond = λ i h k. lane-out t e s passage i h k ∙ v .beyond i h k;
 }
 
 -- metering is entered in range;
@@ -186,7 +203,7 @@ lanes-enter own n h = record {
 }
 
 -- lanes that all are red may stand in any interval;
-all-red : (s : Lanes) (n : ℕ) → allRed s n ≡ true → (i : ℕ) → i < n → laneOf s i .colour ≡ 1
+pub all-red : (s : Lanes) (n : ℕ) → allRed s n ≡ true → (i : ℕ) → i < n → laneOf s i .colour ≡ 1
 unfolding allRed
 all-red s n e i h =
     let none = not-true (anyFrom (λ i. not (eqb (laneOf s i .colour) 1)) 0 n) e in
@@ -220,45 +237,66 @@ lanes-release s n k h v =
     })
 
 -- The group is in range after a tick. Only the site's lanes are asked of the timings.
-module _ (t : Timings) (preemption : ℕ) (wish : Wish) (cycle : ℕ) (samples : Metered) (g : Group) (h : 1 ≤ t .lanes) (v : GroupGood g (t .lanes)) where
-  pub moved-lanes : LanesGood (isOwn (intervalOf t preemption wish g)) (lanesMoved t preemption wish samples g) (t .lanes)
+module _ (t : Timings) (calls : Calls) (wish : Wish) (cycle : ℕ) (samples : Metered) (g : Group) (h : 1 ≤ t .lanes) (hp : t .priority ≤ t .lanes)
+    (v : GroupGood g (t .lanes) (t .priority)) where
+  -- The interval, the bypass and the lanes before a release.
+  abbrev now : ℕ
+  now = intervalOf t (calls .preemption) wish g
+
+  abbrev bypass : Bypass
+  bypass = bypassIn t (calls .bypass) (samples .passage) now g
+
+  abbrev endings : Endings
+  endings = endingsOf t (g .bypass) bypass
+
+  pub moved-bypass : BypassGood (eqb now 7) (t .priority) bypass
+  unfolding bypassIn
+  moved-bypass = bypass-keeps t (eqb now 7) (calls .bypass) (hasPassed t (g .lanes) (samples .passage)) (g .bypass) _ (v .bypass)
+
+  pub moved-lanes : LanesGood (isOwn now) (lanesMoved t now bypass samples g) (t .lanes)
+  unfolding lanesMoved
   moved-lanes =
-      lanes-cases t preemption wish samples g (v .interval) (λ k s. LanesGood (isOwn k) s (t .lanes))
-      (λ b _. lanes-keep t (g .lanes) (samples .passage) (rw b at (v .lanes)))
+      lanes-cases t (calls .preemption) wish endings (samples .passage) g (v .interval) (λ k s. LanesGood (isOwn k) s (t .lanes))
+      (λ b _. lanes-keep t endings (g .lanes) (samples .passage) (rw b at (v .lanes)))
       (λ _. lanes-enter true (t .lanes) h)
-      (λ o. lanes-keep t (g .lanes) (samples .passage) (rw o at (v .lanes)))
+      (λ o. lanes-keep t endings (g .lanes) (samples .passage) (rw o at (v .lanes)))
       (λ k _ _ r. lanes-rest (isOwn (g .interval)) (isOwn k) (g .lanes) (t .lanes) r (v .lanes))
 
-  pub moved-interval : intervalOf t preemption wish g ≤ 9
+  pub moved-interval : now ≤ 9
   moved-interval =
-      lanes-cases t preemption wish samples g (v .interval) (λ k s. k ≤ 9) (λ _ _. omega arith) (λ _. omega arith) (λ _. omega arith) (λ k m _ _. m)
+      lanes-cases t (calls .preemption) wish endings (samples .passage) g (v .interval) (λ k s. k ≤ 9) (λ _ _. omega arith) (λ _. omega arith) (λ _. omega arith) (λ k m _ _. m)
 
-  with-release : (now : ℕ) (s : Lanes) → LanesGood (isOwn now) s (t .lanes)
-      → LanesGood (isOwn now) (releaseOf s (releasedIn t cycle (samples .demand) now s)) (t .lanes)
+  released-in-site : (kept : Bool) (k : ℕ) (s : Lanes) → releasedIn t kept cycle (samples .demand) k s ≤ t .lanes
   unfolding releasedIn
-  with-release now s w =
-      by-test (eqb now 7)
-      (λ e. let q = eqb-true now 7 e in
-      rw q (lanes-release s (t .lanes) (releasedOf t cycle (samples .demand) s) (released-in t cycle (samples .demand) s h) (rw q at w)))
-      (λ e. rw (e, none-released s 0 refl) (rw e at w))
+  released-in-site true k s = omega (arith, released-most t s)
+  released-in-site false k s = by-test (eqb k 7) (λ e. rw e (released-in t cycle (samples .demand) s h)) (λ e. rw e (omega arith))
 
-  released-most : (now : ℕ) (s : Lanes) → releasedIn t cycle (samples .demand) now s ≤ t .lanes
+  none-outside : (kept : Bool) (k : ℕ) (s : Lanes) → (kept ≡ true → eqb k 7 ≡ true) → eqb k 7 ≡ false → releasedIn t kept cycle (samples .demand) k s ≡ 0
   unfolding releasedIn
-  released-most now s =
-      by-test (eqb now 7) (λ e. rw e (released-in t cycle (samples .demand) s h)) (λ e. rw e (omega arith))
+  none-outside true k s m e = absurd (true≢false (sym (m refl) ∙ e))
+  none-outside false k s m e = rw e
 
-  pub moved-released : movedOf t preemption wish cycle samples g .released ≤ t .lanes
+  with-release : (kept : Bool) (k : ℕ) (s : Lanes) → (kept ≡ true → eqb k 7 ≡ true) → LanesGood (isOwn k) s (t .lanes)
+      → LanesGood (isOwn k) (releaseOf s (releasedIn t kept cycle (samples .demand) k s)) (t .lanes)
+  with-release kept k s m w =
+      by-test (eqb k 7)
+      (λ e. let q = eqb-true k 7 e in
+      rw q (lanes-release s (t .lanes) _ (released-in-site kept 7 s) (rw q at w)))
+      (λ e. rw (none-outside kept k s m e, none-released s 0 refl) w)
+
+  pub moved-released : movedOf t calls wish cycle samples g .released ≤ t .lanes
   unfolding movedOf movedWith
-  moved-released = released-most _ _
+  moved-released = released-in-site _ _ _
 
-  new-age : (now : ℕ) (s : Lanes) → groupOf g now s .age ≤ 36000
+  new-age : (k : ℕ) (b : Bypass) (s : Lanes) → groupOf g k b s .age ≤ 36000
   unfolding groupOf
-  new-age now s = by-test (eqb now (g .interval)) (λ e. rw e (age-most (g .age))) (λ e. rw e (omega arith))
+  new-age k b s = by-test (eqb k (g .interval)) (λ e. rw e (age-most (g .age))) (λ e. rw e (omega arith))
 
-  pub moved-good : GroupGood (movedOf t preemption wish cycle samples g .group) (t .lanes)
+  pub moved-good : GroupGood (movedOf t calls wish cycle samples g .group) (t .lanes) (t .priority)
   unfolding movedOf movedWith groupOf
   moved-good = record {
     interval = moved-interval;
-    age = new-age _ (g .lanes);
-    lanes = with-release _ _ moved-lanes;
+    age = new-age _ bypass (g .lanes);
+    lanes = with-release (bypass .kept) _ _ (moved-bypass .in-metering) moved-lanes;
+    bypass = moved-bypass;
   }

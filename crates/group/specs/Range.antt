@@ -8,6 +8,7 @@ use Rattle.loops.specs.Any.{anyFrom}
 use Rattle.lanes.specs.declared.Lane.{Lane}
 use Rattle.lanes.specs.declared.Lanes.{Lanes}
 use Rattle.lanes.specs.Lanes.{laneOf}
+use Rattle.bypass.specs.Range.{bypassSpoilt}
 use Rattle.group.specs.declared.Group.{Group}
 
 -- "A lane's colour not 1 to 3, or not 1 outside 7 and 8."
@@ -28,5 +29,8 @@ laneSpoiltAt interval s n i = cond (ltb i n) (laneSpoilt interval (laneOf s i)) 
 unfoldable pub lanesSpoilt : ℕ → Lanes → ℕ → Bool
 lanesSpoilt interval s n = ltb 720 (s .offset) || (ltb (s .last) 1 || (ltb n (s .last) || anyFrom (laneSpoiltAt interval s n) 0 4))
 
-unfoldable pub groupSpoilt : Group → ℕ → Bool
-groupSpoilt g n = ltb 9 (g .interval) || (ltb 36000 (g .age) || lanesSpoilt (g .interval) (g .lanes) n)
+-- At a site of n lanes with this priority lane; of the bypass as document 02, A4, says.
+unfoldable pub groupSpoilt : Group → ℕ → ℕ → Bool
+groupSpoilt g n priority =
+    ltb 9 (g .interval)
+    || (ltb 36000 (g .age) || (lanesSpoilt (g .interval) (g .lanes) n || bypassSpoilt (eqb (g .interval) 7) priority (g .bypass)))

@@ -107,9 +107,9 @@ fn lanes_spoilt(interval: u16, s: Lanes, n: u16) -> bool
     any_lane_spoilt(interval, s, n)
 }
 
-// Whether a group's state is outside its ranges, at a site of n lanes.
-pub fn group_spoilt(g: Group, n: u16) -> bool
-    ensures { λ r. ⌜ r ≡ groupSpoilt g n ⌝ }
+// Whether a group's state is outside its ranges, at a site of n lanes with this priority lane.
+pub fn group_spoilt(g: Group, n: u16, priority: u16) -> bool
+    ensures { λ r. ⌜ r ≡ groupSpoilt g n priority ⌝ }
 {
     if SHUTDOWN_RED < g.interval {
         return true;
@@ -118,5 +118,9 @@ pub fn group_spoilt(g: Group, n: u16) -> bool
         return true;
     }
     let s = g.lanes;
-    lanes_spoilt(g.interval, s, n)
+    if lanes_spoilt(g.interval, s, n) {
+        return true;
+    }
+    let b = g.bypass;
+    bypass::spoilt(g.interval == METERING, priority, b)
 }

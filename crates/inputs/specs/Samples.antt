@@ -1,5 +1,5 @@
 -- Document 01, 'One tick's input': the detectors' samples. "All are range checked, even of a lane not working. Lanes beyond n or m are
--- ignored." And a call's sample, document 02.
+-- ignored." And the calls' samples, document 02.
 use Prim.Native.Nat.{ℕ}
 use mathlib.Core.Bool.{Bool, _||_}
 use lib.Dec.{ltb}
@@ -11,6 +11,7 @@ use Rattle.inputs.specs.declared.Metered.{Metered}
 use Rattle.inputs.specs.declared.Mainline.{Mainline}
 use Rattle.inputs.specs.declared.MeteredSample.{MeteredSample}
 use Rattle.inputs.specs.declared.LaneSample.{LaneSample}
+use Rattle.inputs.specs.declared.Calls.{Calls}
 
 -- One lane's samples, the first lane being 0.
 abbrev pub meteredSampleOf : Metered → ℕ → MeteredSample
@@ -42,6 +43,6 @@ laneBad s =
 unfoldable pub samplesBad : Metered → Mainline → ℕ → ℕ → Bool
 samplesBad lanes main n m = anyFrom (λ i. meteredBad (meteredSampleOf lanes i)) 0 n || anyFrom (λ j. laneBad (laneSampleOf main j)) 0 m
 
--- 9 too: "preemption 0 or 1"; "a value above 1 is the old 9" (document 02, A1).
-unfoldable pub callBad : ℕ → Bool
-callBad call = ltb (flags .high) call
+-- 9 too: "preemption 0 or 1", "a bypass sample 0 or 1"; "a value above 1 is the old 9" (document 02, A1 and A4).
+unfoldable pub callsBad : Calls → Bool
+callsBad c = ltb (flags .high) (c .preemption) || ltb (flags .high) (c .bypass)

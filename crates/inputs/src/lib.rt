@@ -1,7 +1,7 @@
 // One tick's samples, calls and commands, and their ranges. The clock's date is the calendar's.
 ghost use mathlib.Core.Path.{_≡_};
 ghost use Rattle.loops.specs.Any.{anyFrom};
-ghost use Rattle.inputs.specs.Samples.{meteredBad, laneBad, samplesBad, callBad, meteredSampleOf, laneSampleOf};
+ghost use Rattle.inputs.specs.Samples.{meteredBad, laneBad, samplesBad, callsBad, meteredSampleOf, laneSampleOf};
 ghost use Rattle.inputs.specs.Commands.{carriesNothing, commandBad, commandsBad};
 
 // A tick's samples of the metered lanes: each 0 or 1.
@@ -28,6 +28,14 @@ pub struct LaneSample {
     pub occupied: u16,
     pub vehicles: u16,
     pub speed: u16,
+}
+
+// A tick's calls: each 1 while it is on, else 0.
+pub struct Calls {
+    // the fire service's
+    pub preemption: u16,
+    // a bus's
+    pub bypass: u16,
 }
 
 // A command of the technician or of the control centre.
@@ -171,11 +179,14 @@ pub fn samples_bad(lanes: Metered, main: Mainline, n: u16, m: u16) -> bool
     any_lane_bad(main, m)
 }
 
-// Whether the sample of a call, such as the fire service's, is out of range.
-pub fn call_bad(call: u16) -> bool
-    ensures { λ r. ⌜ r ≡ callBad call ⌝ }
+// Whether the sample of the fire service's call or of a bus's is out of range.
+pub fn calls_bad(calls: Calls) -> bool
+    ensures { λ r. ⌜ r ≡ callsBad calls ⌝ }
 {
-    CALLED < call
+    if CALLED < calls.preemption {
+        return true;
+    }
+    CALLED < calls.bypass
 }
 
 // Whether a command has neither rate nor table.

@@ -1,2 +1,3 @@
 pub mod LaneLaws
 pub mod RedLaws
+pub mod MostLaws

@@ -1,6 +1,7 @@
 // One lane's interval: green, yellow, red.
 ghost use mathlib.Core.Path.{_≡_};
-ghost use Rattle.lanes.specs.Intervals.{riseOf, passagesOf, greenEnds, greenAt, yellowAt, laneTick};
+ghost use Rattle.lanes.specs.Intervals.{riseOf, passagesOf, greenEnds, endsBy, greenAt, yellowAt, laneTick};
+use crate::Ending;
 use crate::GREEN;
 use crate::LONGEST;
 use crate::Lane;
@@ -29,6 +30,7 @@ fn passages_of(count: u16, passage: u16) -> u16
     count
 }
 
+// Whether a green of this age ends by the ordinary rule.
 fn green_ends(t: Timings, age: u16, passages: u16) -> bool
     ensures { λ r. ⌜ r ≡ greenEnds t age passages ⌝ }
 {
@@ -41,11 +43,23 @@ fn green_ends(t: Timings, age: u16, passages: u16) -> bool
     t.maxgreen <= age
 }
 
-// A green lane of this age.
-fn green_at(t: Timings, age: u16, counter: u16, passages: u16) -> Lane
-    ensures { λ r. ⌜ r ≡ greenAt t age counter passages ⌝ }
+// Whether it ends by this tick's rule for its lane.
+fn ends_by(t: Timings, ending: Ending, age: u16, passages: u16) -> bool
+    ensures { λ r. ⌜ r ≡ endsBy t ending age passages ⌝ }
 {
-    if green_ends(t, age, passages) {
+    match ending {
+        Ending::Ordinary => green_ends(t, age, passages),
+        Ending::Cut => t.mingreen <= age,
+        Ending::Held => false,
+        Ending::Now => true,
+    }
+}
+
+// A green lane of this age.
+fn green_at(t: Timings, ending: Ending, age: u16, counter: u16, passages: u16) -> Lane
+    ensures { λ r. ⌜ r ≡ greenAt t ending age counter passages ⌝ }
+{
+    if ends_by(t, ending, age, passages) {
         return Lane {
             colour: YELLOW,
             age: 0,
@@ -82,13 +96,13 @@ fn yellow_at(t: Timings, age: u16, counter: u16, passages: u16) -> Lane
 }
 
 // A lane one tick later, not released.
-pub fn lane_tick(t: Timings, l: Lane, passage: u16) -> Lane
-    ensures { λ r. ⌜ r ≡ laneTick t l passage ⌝ }
+pub fn lane_tick(t: Timings, ending: Ending, l: Lane, passage: u16) -> Lane
+    ensures { λ r. ⌜ r ≡ laneTick t ending l passage ⌝ }
 {
     let age = rise(l.age);
     let counter = rise(l.counter);
     if l.colour == GREEN {
-        return green_at(t, age, counter, passages_of(l.passages, passage));
+        return green_at(t, ending, age, counter, passages_of(l.passages, passage));
     }
     if l.colour == YELLOW {
         return yellow_at(t, age, counter, l.passages);

@@ -2,8 +2,10 @@
 mod interval;
 
 ghost use mathlib.Core.Path.{_≡_};
+ghost use lib.ListN.{getD};
 use timings::Timings;
-ghost use Rattle.lanes.specs.Lanes.{laneOf, lanesOf, laneTickAt, lanesTick, laneEntered, lanesEntered};
+ghost use Rattle.lanes.specs.Intervals.{hasBeenRed};
+ghost use Rattle.lanes.specs.Lanes.{laneOf, lanesOf, endingOf, laneTickAt, lanesTick, laneEntered, lanesEntered};
 
 // A lane's colours; a lane that the site lacks has none.
 pub const RED: u16 = 1;
@@ -37,6 +39,22 @@ pub struct Lanes {
     pub last: u16,
 }
 
+// How a lane's green ends at a tick: by the ordinary rule, as soon as it has had its minimum, not at
+// all, or at once.
+pub enum Ending {
+    Ordinary,
+    Cut,
+    Held,
+    Now,
+}
+
+// How the lanes' greens end at a tick: that of one lane, from 1, and those of the others.
+pub struct Endings {
+    pub lane: u16,
+    pub own: Ending,
+    pub others: Ending,
+}
+
 // Lane i, the first lane being 0; all 0 past the fourth.
 pub fn lane_at(s: Lanes, i: u16) -> Lane
     ensures { λ r. ⌜ r ≡ laneOf s i ⌝ }
@@ -58,6 +76,27 @@ pub fn lane_at(s: Lanes, i: u16) -> Lane
     }
 }
 
+// The sample of lane i, the first lane being 0; 0 past the fourth.
+pub fn sample_at(samples: [u16; 4], i: u16) -> u16
+    ensures { λ r. ⌜ r ≡ getD samples i 0 ⌝ }
+{
+    let k = i as usize;
+    if 4 <= k {
+        return 0;
+    }
+    samples[k]
+}
+
+// Whether a lane has been red at least the minimum.
+pub fn has_been_red(t: Timings, l: Lane) -> bool
+    ensures { λ r. ⌜ r ≡ hasBeenRed t l ⌝ }
+{
+    if l.colour != RED {
+        return false;
+    }
+    t.minred <= l.age
+}
+
 // These four lanes.
 pub fn of_lanes(a: Lane, b: Lane, c: Lane, d: Lane, offset: u16, last: u16) -> Lanes
     ensures { λ r. ⌜ r ≡ lanesOf a b c d offset last ⌝ }
@@ -72,25 +111,36 @@ pub fn of_lanes(a: Lane, b: Lane, c: Lane, d: Lane, offset: u16, last: u16) -> L
     }
 }
 
+// How the green of lane k, from 1, ends.
+fn ending_of(e: Endings, k: u16) -> Ending
+    ensures { λ r. ⌜ r ≡ endingOf e k ⌝ }
+{
+    if e.lane == k {
+        return e.own;
+    }
+    e.others
+}
+
 // Lane i one tick later, with its passage sample; one that the site lacks stays as it is.
-fn tick_at(t: Timings, s: Lanes, passage: u16, i: u16) -> Lane
-    ensures { λ r. ⌜ r ≡ laneTickAt t s passage i ⌝ }
+fn tick_at(t: Timings, endings: Endings, s: Lanes, passage: u16, i: u16) -> Lane
+    ensures { λ r. ⌜ r ≡ laneTickAt t endings s passage i ⌝ }
 {
     let lane = lane_at(s, i);
     if t.lanes <= i {
         return lane;
     }
-    interval::lane_tick(t, lane, passage)
+    let ending = ending_of(endings, i + 1);
+    interval::lane_tick(t, ending, lane, passage)
 }
 
 // The lanes one tick later, none released, with the tick's passage samples.
-pub fn tick(t: Timings, s: Lanes, passage: [u16; 4]) -> Lanes
-    ensures { λ r. ⌜ r ≡ lanesTick t s passage ⌝ }
+pub fn tick(t: Timings, endings: Endings, s: Lanes, passage: [u16; 4]) -> Lanes
+    ensures { λ r. ⌜ r ≡ lanesTick t endings s passage ⌝ }
 {
-    let a = tick_at(t, s, passage[0], 0);
-    let b = tick_at(t, s, passage[1], 1);
-    let c = tick_at(t, s, passage[2], 2);
-    let d = tick_at(t, s, passage[3], 3);
+    let a = tick_at(t, endings, s, passage[0], 0);
+    let b = tick_at(t, endings, s, passage[1], 1);
+    let c = tick_at(t, endings, s, passage[2], 2);
+    let d = tick_at(t, endings, s, passage[3], 3);
     of_lanes(a, b, c, d, interval::rise(s.offset), s.last)
 }
 

@@ -1,10 +1,10 @@
 -- How long the lanes of a group take until all are red; a tick shortens it.
-use Prim.Native.Nat.{ℕ, zero, suc, _+_, _-_, _≤_, _<_, max}
+use Prim.Native.Nat.{ℕ, _+_, _-_, _≤_, _<_}
 use mathlib.Core.Path.{_≡_, sym, _∙_}
 use mathlib.Core.Bool.{true, false, not, true≢false}
 use mathlib.Core.List.{List}
 use native.Mathlib.Omega.{arith}
-use borrow.Author.Tests.{leb-true, leb-false, eqb-true, eqb-false, eq-eqb}
+use borrow.Author.Tests.{leb-true, leb-false, eq-eqb}
 use lib.Dec.{leb, eqb}
 use lib.ListN.{getD}
 use Rattle.loops.proofs.AnyLaws.{any-of-none}
@@ -13,43 +13,20 @@ use Rattle.timings.specs.declared.Timings.{Timings}
 use Rattle.site.proofs.TimingLaws.{TimingsGood}
 use Rattle.lanes.specs.declared.Lane.{Lane}
 use Rattle.lanes.specs.declared.Lanes.{Lanes}
-use Rattle.lanes.specs.Lanes.{laneOf, lanesTick, lanesEntered}
-use Rattle.lanes.proofs.LaneLaws.{lane-in, entered-in}
-use Rattle.lanes.proofs.RedLaws.{redIn, red-falls}
+use Rattle.lanes.specs.declared.Endings.{Endings}
+use Rattle.lanes.specs.Lanes.{laneOf, endingOf, lanesTick, lanesEntered}
+use Rattle.lanes.proofs.LaneLaws.{Within, lane-in, entered-in}
+use Rattle.lanes.proofs.RedLaws.{redIn, red-falls, red-now}
+use Rattle.lanes.proofs.MostLaws.{mostOf, most-each, most-most}
 use Rattle.group.specs.Group.{allRed}
-use Rattle.group.proofs.RangeLaws.{LaneGood, LanesGood}
-
--- The greatest of the first n values.
-abbrev mostOf : (ℕ → ℕ) → ℕ → ℕ
-mostOf f zero = 0
-mostOf f (suc n) = max (mostOf f n) (f n)
-
-most-each : (f : ℕ → ℕ) (n i : ℕ) → i < n → f i ≤ mostOf f n
-most-each f zero i h = absurd (omega arith)
-most-each f (suc n) i h =
-    by-test (eqb i n)
-    (λ e. rw (eqb-true i n e) (omega arith))
-    (λ e. omega (arith, most-each f n i (omega (arith, eqb-false i n e))))
-
-most-most : (f : ℕ → ℕ) (n k : ℕ) → ((i : ℕ) → i < n → f i ≤ k) → mostOf f n ≤ k
-most-most f zero k h = omega arith
-most-most f (suc n) k h = omega (arith, most-most f n k (λ i l. h i (omega arith)), h n (omega arith))
+use Rattle.group.proofs.RangeLaws.{LanesGood}
 
 -- Ticks, the present one included, until all lanes are red; 0 where they are.
 pub allRedIn : Timings → Lanes → ℕ
-allRedIn t s = mostOf (λ i. redIn t 0 (laneOf s i)) (t .lanes)
+allRedIn t s = mostOf (λ i. redIn t (t .maxgreen) 0 (laneOf s i)) (t .lanes)
 
--- A lane that is not red takes some tick, and a whole green and yellow at the most.
-lane-red : (t : Timings) (l : Lane) → LaneGood true l → redIn t 0 l ≤ 0 → l .colour ≡ 1
-unfolding redIn
-lane-red t l v h =
-    by-test (eqb (l .colour) 3)
-    (λ e. let y = rw e at h in absurd (omega arith))
-    (λ e. by-test (eqb (l .colour) 2)
-    (λ f. let y = rw (e, f) at h in absurd (omega arith))
-    (λ f. omega (arith, v .least, v .most, eqb-false (l .colour) 3 e, eqb-false (l .colour) 2 f)))
-
-lane-red-most : (t : Timings) (l : Lane) → 1 ≤ t .maxgreen → 1 ≤ t .yellow → redIn t 0 l ≤ t .maxgreen + t .yellow
+-- A lane takes a whole green and yellow at the most.
+lane-red-most : (t : Timings) (l : Lane) → 1 ≤ t .maxgreen → 1 ≤ t .yellow → redIn t (t .maxgreen) 0 l ≤ t .maxgreen + t .yellow
 unfolding redIn
 lane-red-most t l g y =
     by-test (eqb (l .colour) 3)
@@ -63,15 +40,16 @@ module _ (t : Timings) (ok : TimingsGood t) where
       most-most _ (t .lanes) _
       (λ i h. lane-red-most t (laneOf s i) (omega (arith, ok .green-least)) (omega (arith, ok .yellow-least)))
 
-  pub lanes-red-fall : (s : Lanes) (passage : List ℕ) → allRedIn t (lanesTick t s passage) ≤ allRedIn t s - 1
+  pub lanes-red-fall : (endings : Endings) → ((k : ℕ) → Within t (t .maxgreen) (endingOf endings k)) → (s : Lanes) (passage : List ℕ)
+      → allRedIn t (lanesTick t endings s passage) ≤ allRedIn t s - 1
   unfolding allRedIn
-  lanes-red-fall s passage =
+  lanes-red-fall endings within s passage =
       most-most _ (t .lanes) _
-      (λ i h. rw (lane-in t s passage i (omega (arith, ok .lanes-most)) h)
+      (λ i h. rw (lane-in t endings s passage i (omega (arith, ok .lanes-most)) h)
       (omega (
         arith,
-        red-falls t 0 (omega (arith, ok .green-most)) (omega (arith, ok .yellow-least)) (omega (arith, ok .yellow-most)) (omega arith) (laneOf s i) (getD passage i 0),
-        most-each (λ i. redIn t 0 (laneOf s i)) (t .lanes) i h,
+        red-falls t (endingOf endings (i + 1)) (t .maxgreen) 0 (within (i + 1)) (omega (arith, ok .green-most)) (omega (arith, ok .yellow-least)) (omega (arith, ok .yellow-most)) (omega arith) (laneOf s i) (getD passage i 0),
+        most-each (λ i. redIn t (t .maxgreen) 0 (laneOf s i)) (t .lanes) i h,
       )))
 
   pub entered-red : allRedIn t (lanesEntered (t .lanes)) ≡ 0
@@ -79,7 +57,7 @@ module _ (t : Timings) (ok : TimingsGood t) where
   entered-red =
       omega (
         arith,
-        most-most (λ i. redIn t 0 (laneOf (lanesEntered (t .lanes)) i)) (t .lanes) 0
+        most-most (λ i. redIn t (t .maxgreen) 0 (laneOf (lanesEntered (t .lanes)) i)) (t .lanes) 0
             (λ i h. rw (entered-in (t .lanes) i (omega (arith, ok .lanes-most)) h) (omega arith)),
       )
 
@@ -92,8 +70,9 @@ module _ (t : Timings) (ok : TimingsGood t) where
     where
       red-at : allRedIn t s < 1 → (i : ℕ) → i < t .lanes → laneOf s i .colour ≡ 1
       red-at f i h =
-          lane-red t (laneOf s i) (v .inside i (omega (arith, ok .lanes-most)) h)
-          (omega (arith, most-each (λ i. redIn t 0 (laneOf s i)) (t .lanes) i h))
+          let l = v .inside i (omega (arith, ok .lanes-most)) h in
+          red-now t (t .maxgreen) 0 (laneOf s i) (l .least) (l .most)
+          (omega (arith, most-each (λ i. redIn t (t .maxgreen) 0 (laneOf s i)) (t .lanes) i h)) .0
 
       all-red : allRedIn t s < 1 → allRed s (t .lanes) ≡ true
       all-red f =

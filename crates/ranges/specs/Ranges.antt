@@ -1,4 +1,5 @@
--- Document 01, 'The site file': the range of each number. Where a range depends on a number to the left, that number is a parameter.
+-- Document 01, 'The site file', with document 02's A4: the range of each number. Where a range depends on a number to the left, that
+-- number is a parameter.
 use Prim.Native.Nat.{ℕ}
 use mathlib.Core.Bool.{cond, _||_}
 use mathlib.Core.List.{List, [], _∷_}
@@ -23,10 +24,11 @@ levelTables = between 1 4
 abbrev pub unused : ℕ
 unused = 65535
 
--- Lanes, service mode, vehicles per green, minimum green; "maximum green, minimum green to 100"; yellow, minimum red, startup warning, startup
--- green, startup yellow, startup red, shutdown red, maximum and minimum pre-metering green, mainline lanes.
-abbrev pub timingRanges : ℕ → List Range
-timingRanges minimumGreen =
+-- Lanes, service mode, vehicles per green, minimum green; "maximum green, minimum green to 100"; yellow, minimum red, startup warning,
+-- startup green, startup yellow, startup red, shutdown red, maximum and minimum pre-metering green, mainline lanes; "last come the priority
+-- lane 0 to n, 0 for none, and a timeout of 0-255 seconds, 0 for never".
+abbrev pub timingRanges : ℕ → ℕ → List Range
+timingRanges lanes minimumGreen =
     between 1 4
     ∷ between 0 1
     ∷ between 1 3
@@ -42,10 +44,12 @@ timingRanges minimumGreen =
     ∷ between 1 60
     ∷ between 1 600
     ∷ between 1 6
+    ∷ between 0 lanes
+    ∷ between 0 255
     ∷ []
 
-unfoldable pub timingRange : ℕ → ℕ → Range
-timingRange minimumGreen i = getD (timingRanges minimumGreen) i onlyZero
+unfoldable pub timingRange : ℕ → ℕ → ℕ → Range
+timingRange lanes minimumGreen i = getD (timingRanges lanes minimumGreen) i onlyZero
 
 -- A rate "in modes 2 and 3, else 0".
 unfoldable pub rateRange : ℕ → Range

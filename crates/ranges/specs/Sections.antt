@@ -1,4 +1,5 @@
--- Document 01, 'The site file': the four sections, each described once. Reading, writing and the check for 14 go by this.
+-- Document 01, 'The site file', with document 02's A4: the four sections, each described once. Reading, writing and the check for 14 go
+-- by this.
 use Prim.Native.Nat.{ℕ, zero, suc, _+_, _-_, _*_, _/_, _%_}
 use mathlib.Core.Bool.{Bool, true, false, cond}
 use mathlib.Core.List.{List, [], _∷_}
@@ -19,12 +20,12 @@ widthOf Levels = 5
 
 -- The greatest count.
 abbrev pub greatestOf : Section → ℕ
-greatestOf Timings = 15
+greatestOf Timings = 17
 greatestOf Entries = 16
 greatestOf Holidays = 16
 greatestOf Levels = 24
 
--- "Count 15"; "count 0-16"; "count 0-16"; "count 0-24".
+-- "Timings become 17 numbers"; "count 0-16"; "count 0-16"; "count 0-24".
 abbrev pub allowedOf : Section → ℕ → Bool
 allowedOf Timings n = eqb n (greatestOf Timings)
 allowedOf Entries n = leb n (greatestOf Entries)
@@ -65,7 +66,7 @@ rowStart k i = i - columnOf k i
 
 -- The range of number i of a section whose numbers are v.
 unfoldable pub rangeOf : Section → List ℕ → ℕ → Range
-rangeOf Timings v i = timingRange (getD v 3 0) i
+rangeOf Timings v i = timingRange (getD v 0 0) (getD v 3 0) i
 rangeOf Entries v i = entryRange (getD v (rowStart Entries i + 2) 0) (columnOf Entries i)
 rangeOf Holidays v i = holidayRange (getD v (rowStart Holidays i) 0) (getD v (rowStart Holidays i + 1) 0) (columnOf Holidays i)
 rangeOf Levels v i = levelRange (columnOf Levels i)
@@ -77,7 +78,7 @@ mayBeUnused Entries i = false
 mayBeUnused Holidays i = false
 mayBeUnused Levels i = isWithin (between 1 3) (columnOf Levels i)
 
--- Whether number i is one that the paper allows. No range reaches 65535.
+-- Whether number i is one that the paper allows. No range reaches 65535, the numbers to its left being allowed.
 unfoldable pub isGood : Section → List ℕ → ℕ → Bool
 isGood k v i = cond (eqb (getD v i 0) unused) (mayBeUnused k i) (isWithin (rangeOf k v i) (getD v i 0))
 

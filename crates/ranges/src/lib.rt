@@ -28,7 +28,7 @@ pub const HOLIDAY_WIDTH: usize = 4;
 pub const LEVEL_WIDTH: usize = 5;
 
 // The counts: of timings all, of the others the greatest.
-pub const TIMINGS: u16 = 15;
+pub const TIMINGS: u16 = 17;
 
 const MOST_ENTRIES: u16 = 16;
 
@@ -143,7 +143,10 @@ pub fn range_at(section: Section, v: &[u16], i: usize) -> Range
     ensures { λ r. ⌜ r ≡ rangeOf section (now (v .entry)) i ⌝ }
 {
     match section {
-        Section::Timings => range::timing_range(numbers::number_at(v, 3), i),
+        Section::Timings => {
+            let lanes = numbers::number_at(v, 0);
+            range::timing_range(lanes, numbers::number_at(v, 3), i)
+        }
         Section::Entries => {
             let column = i % ENTRY_WIDTH;
             let row = i - column;

@@ -28,9 +28,9 @@ const LEVELS: [Range; 5] = [
 // The most days of each month.
 const MONTH_DAYS: [u16; 13] = [0, 31, 29, 31, 30, 31, 30, 31, 31, 30, 31, 30, 31];
 
-// Timing i; the maximum green is the minimum green at least.
-pub fn timing_range(minimum_green: u16, i: usize) -> Range
-    ensures { λ r. ⌜ r ≡ timingRange «minimum_green» i ⌝ }
+// Timing i; the maximum green is the minimum green at least, the priority lane one of the lanes or 0.
+pub fn timing_range(lanes: u16, minimum_green: u16, i: usize) -> Range
+    ensures { λ r. ⌜ r ≡ timingRange lanes «minimum_green» i ⌝ }
 {
     match i {
         // lanes
@@ -66,6 +66,13 @@ pub fn timing_range(minimum_green: u16, i: usize) -> Range
         13 => Range { low: 1, high: 600 },
         // mainline lanes
         14 => Range { low: 1, high: 6 },
+        // priority lane
+        15 => Range {
+            low: 0,
+            high: lanes,
+        },
+        // bypass timeout
+        16 => Range { low: 0, high: 255 },
         _ => ONLY_ZERO,
     }
 }

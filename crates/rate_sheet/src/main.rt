@@ -7,6 +7,7 @@ ghost use Rattle.release.specs.Cycle.{cycleTicks};
 ghost use Rattle.rate_sheet.specs.Sheet.{secondsText, rateLine, rateLines, sheetText, ramp, asking, firstTick};
 use calendar::Clock;
 use calendar::Date;
+use inputs::Calls;
 use inputs::Command;
 use inputs::Mainline;
 use inputs::Metered;
@@ -27,7 +28,25 @@ fn ramp(vehicles: u16) -> Site
     ensures { λ r. ⌜ r ≡ ramp vehicles ⌝ }
 {
     Site {
-        timings: [1, 0, vehicles, 10, 10, 10, 10, 10, 10, 10, 10, 10, 1, 1, 1],
+        timings: [
+            1,
+            0,
+            vehicles,
+            10,
+            10,
+            10,
+            10,
+            10,
+            10,
+            10,
+            10,
+            10,
+            1,
+            1,
+            1,
+            0,
+            0,
+        ],
         entries: 0,
         plan: [0u16; ranges::MOST_ENTRY_NUMBERS],
         holidays: 0,
@@ -60,7 +79,10 @@ fn asking(rate: u16) -> Input
             vehicles: [0u16; 6],
             speed: [0u16; 6],
         },
-        preemption: 0,
+        calls: Calls {
+            preemption: 0,
+            bypass: 0,
+        },
         manual: Command {
             kind: inputs::FIXED,
             rate,

@@ -1,7 +1,7 @@
 -- What a release does to a lane, and what it tells of the lane that was released.
-use Prim.Native.Nat.{ℕ, zero, suc, _+_, _-_, _≤_, _<_}
-use mathlib.Core.Path.{_≡_, refl, sym, _∙_}
-use mathlib.Core.Bool.{Bool, true, false, _&&_, true≢false}
+use Prim.Native.Nat.{ℕ, _+_, _-_, _≤_, _<_}
+use mathlib.Core.Path.{_≡_, _∙_}
+use mathlib.Core.Bool.{true, false, true≢false}
 use mathlib.Core.List.{List}
 use native.Mathlib.Omega.{arith}
 use borrow.Author.Tests.{leb-true, eqb-true, eqb-false, eq-eqb, ne-eqb, le-leb}
@@ -10,9 +10,9 @@ use lib.ListN.{getD}
 use Rattle.timings.specs.declared.Timings.{Timings}
 use Rattle.lanes.specs.declared.Lane.{Lane}
 use Rattle.lanes.specs.declared.Lanes.{Lanes}
-use Rattle.lanes.specs.Intervals.{lane}
+use Rattle.lanes.specs.Intervals.{lane, hasBeenRed}
 use Rattle.lanes.specs.Lanes.{laneOf, lanesOf, lanesEntered}
-use Rattle.loops.proofs.Cases.{by-test}
+use Rattle.loops.proofs.Cases.{by-test, both-true}
 use Rattle.lanes.proofs.LaneLaws.{each-lane, entered-in}
 use Rattle.release.specs.Release.{isReady, readyAt, mayRelease, releasedOf, greenIf, releaseOf}
 use Rattle.turns.proofs.TurnLaws.{first-in, first-holds}
@@ -44,10 +44,6 @@ module _ (s : Lanes) (k : ℕ) where
   unfolding releaseOf lanesOf
   offset-released e = rw e
 
-both : (a b : Bool) → (a && b) ≡ true → (a ≡ true) × (b ≡ true)
-both true b e = (refl, e)
-both false b e = absurd (true≢false (sym e))
-
 -- A lane that is ready.
 pub record Ready (t : Timings) (cycle demand : ℕ) (l : Lane) : Type 0 where
   pub red : l .colour ≡ 1
@@ -57,20 +53,20 @@ pub record Ready (t : Timings) (cycle demand : ℕ) (l : Lane) : Type 0 where
 
 module _ (t : Timings) (cycle demand : ℕ) (l : Lane) where
   pub ready : isReady t cycle demand l ≡ true → Ready t cycle demand l
-  unfolding isReady
+  unfolding isReady hasBeenRed
   ready e =
-      let p = both (eqb (l .colour) 1) _ e in
-      let q = both (leb (t .minred) (l .age)) _ (p .1) in
-      let r = both (eqb demand 1) (leb cycle (l .counter)) (q .1) in
+      let p = both-true (hasBeenRed t l) _ e in
+      let q = both-true (eqb (l .colour) 1) (leb (t .minred) (l .age)) (p .0) in
+      let r = both-true (eqb demand 1) (leb cycle (l .counter)) (p .1) in
       record {
-        red = eqb-true (l .colour) 1 (p .0);
-        long = leb-true (t .minred) (l .age) (q .0);
+        red = eqb-true (l .colour) 1 (q .0);
+        long = leb-true (t .minred) (l .age) (q .1);
         wanted = eqb-true demand 1 (r .0);
         cycled = leb-true cycle (l .counter) (r .1);
       }
 
   pub is-ready : Ready t cycle demand l → isReady t cycle demand l ≡ true
-  unfolding isReady
+  unfolding isReady hasBeenRed
   is-ready r = rw (eq-eqb _ _ (r .red), le-leb _ _ (r .long), eq-eqb _ _ (r .wanted), le-leb _ _ (r .cycled))
 
 module _ (t : Timings) (cycle : ℕ) (demand : List ℕ) (s : Lanes) where

@@ -10,13 +10,13 @@ use Rattle.turns.specs.Turn.{firstAfter}
 use Rattle.timings.specs.declared.Timings.{Timings}
 use Rattle.lanes.specs.declared.Lane.{Lane}
 use Rattle.lanes.specs.declared.Lanes.{Lanes}
-use Rattle.lanes.specs.Intervals.{lane}
+use Rattle.lanes.specs.Intervals.{lane, hasBeenRed}
 use Rattle.lanes.specs.Lanes.{laneOf, eachLane}
 use Rattle.release.specs.Cycle.{offsetTicks}
 
 -- "A lane is ready if red at least the minimum, in demand, and at least a cycle from its last green's start."
 unfoldable pub isReady : Timings → ℕ → ℕ → Lane → Bool
-isReady t cycle demand l = eqb (l .colour) 1 && (leb (t .minred) (l .age) && (eqb demand 1 && leb cycle (l .counter)))
+isReady t cycle demand l = hasBeenRed t l && (eqb demand 1 && leb cycle (l .counter))
 
 -- The same of lane k.
 unfoldable pub readyAt : Timings → ℕ → List ℕ → Lanes → ℕ → Bool

@@ -3,14 +3,12 @@ mod cycle;
 
 ghost use mathlib.Core.Path.{_≡_};
 ghost use Prim.Native.Nat.{_≤_};
-ghost use lib.ListN.{getD};
 ghost use Rattle.turns.specs.Turn.{nextOf, firstAfter};
 ghost use Rattle.release.specs.Release.{isReady, readyAt, anyGreen, mayRelease, releasedOf, greenIf, releaseOf};
 pub use cycle::cycle_ticks;
 use lanes::GREEN;
 use lanes::Lane;
 use lanes::Lanes;
-use lanes::RED;
 use timings::Timings;
 
 // The service mode in which greens begin a part of the cycle apart; in the other, mutual exclusion,
@@ -21,27 +19,12 @@ const FRACTIONAL_OFFSET: u16 = 1;
 fn is_ready(t: Timings, cycle: u16, demand: u16, l: Lane) -> bool
     ensures { λ r. ⌜ r ≡ isReady t cycle demand l ⌝ }
 {
-    if l.colour != RED {
-        return false;
+    if lanes::has_been_red(t, l) {
+        if demand == 1 {
+            return cycle <= l.counter;
+        }
     }
-    if l.age < t.minred {
-        return false;
-    }
-    if demand != 1 {
-        return false;
-    }
-    cycle <= l.counter
-}
-
-// The demand of lane i, the first lane being 0; none past the fourth.
-fn demand_at(demand: [u16; 4], i: u16) -> u16
-    ensures { λ r. ⌜ r ≡ getD demand i 0 ⌝ }
-{
-    let k = i as usize;
-    if 4 <= k {
-        return 0;
-    }
-    demand[k]
+    false
 }
 
 // The same of lane k.
@@ -50,7 +33,7 @@ fn ready_at(t: Timings, cycle: u16, demand: [u16; 4], s: Lanes, k: u16) -> bool
     ensures { λ r. ⌜ r ≡ readyAt t cycle demand s k ⌝ }
 {
     let i = k - 1;
-    let wants = demand_at(demand, i);
+    let wants = lanes::sample_at(demand, i);
     let lane = lanes::lane_at(s, i);
     is_ready(t, cycle, wants, lane)
 }

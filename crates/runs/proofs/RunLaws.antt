@@ -8,11 +8,11 @@ use native.Mathlib.Omega.{arith}
 use Rattle.loops.proofs.Cases.{by-test}
 use Rattle.runs.specs.Runs.{after, AtEach, acceptedIn, happensWithin}
 
-or-else : (a : Bool) {b : Bool} → b ≡ true → (a || b) ≡ true
+pub or-else : (a : Bool) {b : Bool} → b ≡ true → (a || b) ≡ true
 or-else true h = refl
 or-else false h = h
 
-one-less : {k y : ℕ} → suc k ≤ 1 + y → k ≤ y
+pub one-less : {k y : ℕ} → suc k ≤ 1 + y → k ≤ y
 one-less h = omega arith
 
 no-less : {k y : ℕ} → suc k ≤ 0 + y → suc k ≤ y
@@ -32,6 +32,22 @@ module _ {Course Call : Type 0} (onward : Course → Call → Course) (accepted 
       → AtEach onward accepted (λ c call. P c call × Q c call) c calls
   both-run P Q c [] a b = tt
   both-run P Q c (call ∷ calls) a b = ((λ e. (a .0 e, b .0 e)), both-run P Q (onward c call) calls (a .1) (b .1))
+
+  module _ (Holds : Course → Type 0) (Waits : Course → Call → Type 0) (happens : Course → Call → Bool) (rank : Course → ℕ)
+      (stays : (c : Course) (call : Call) → accepted c call ≡ false → onward c call ≡ c)
+      (falls : (c : Course) (call : Call) → Holds c → accepted c call ≡ true → Waits c call → happens c call ≡ false → Holds (onward c call) × (rank (onward c call) < rank c)) where
+    -- What holds need only be kept until it happens.
+    pub until : (k : ℕ) (c : Course) (calls : List Call) → Holds c → AtEach onward accepted Waits c calls
+        → rank c < k → k ≤ acceptedIn onward accepted c calls → happensWithin onward accepted happens k c calls ≡ true
+    until k c [] holds waiting r l = absurd (omega arith)
+    until zero c (call ∷ calls) holds waiting r l = absurd (omega arith)
+    until (suc k) c (call ∷ calls) holds waiting r l =
+        by-test (accepted c call)
+        (λ e. by-test (happens c call)
+        (λ hit. rw (e, hit))
+        (λ miss. let on = falls c call holds e (waiting .0 e) miss in
+        rw e (or-else (happens c call) (until k (onward c call) calls (on .0) (waiting .1) (omega (arith, on .1)) (one-less (rw e at l))))))
+        (λ e. rw e (until (suc k) (onward c call) calls (rw (stays c call e) holds) (waiting .1) (rw (stays c call e) r) (no-less (rw e at l))))
 
   module _ (Going : Course → Type 0) (Given : Course → Call → Type 0)
       (keeps : (c : Course) (call : Call) → Going c → (accepted c call ≡ true → Given c call) → Going (onward c call)) where
@@ -71,14 +87,7 @@ module _ {Course Call : Type 0} (onward : Course → Call → Course) (accepted 
         (falls : (c : Course) (call : Call) → Going c → accepted c call ≡ true → Given c call → Waits c call → happens c call ≡ false → rank (onward c call) < rank c) where
       pub within : (k : ℕ) (c : Course) (calls : List Call) → Going c → AtEach onward accepted Given c calls → AtEach onward accepted Waits c calls
           → rank c < k → k ≤ acceptedIn onward accepted c calls → happensWithin onward accepted happens k c calls ≡ true
-      within k c [] going given waiting r l = absurd (omega arith)
-      within zero c (call ∷ calls) going given waiting r l = absurd (omega arith)
-      within (suc k) c (call ∷ calls) going given waiting r l =
-          let on = keeps c call going (given .0) in
-          by-test (accepted c call)
-          (λ e. by-test (happens c call)
-          (λ hit. rw (e, hit))
-          (λ miss. rw e (or-else (happens c call)
-          (within k (onward c call) calls on (given .1) (waiting .1) (omega (arith, falls c call going e (given .0 e) (waiting .0 e) miss))
-          (one-less (rw e at l))))))
-          (λ e. rw e (within (suc k) (onward c call) calls on (given .1) (waiting .1) (rw (stays c call e) r) (no-less (rw e at l))))
+      within k c calls going given waiting =
+          until Going (λ c call. Given c call × Waits c call) happens rank stays
+          (λ c call going e both miss. (keeps c call going (λ _. both .0), falls c call going e (both .0) (both .1) miss))
+          k c calls going (both-run Given Waits c calls given waiting)

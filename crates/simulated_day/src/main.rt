@@ -7,6 +7,7 @@ mod random;
 use calendar::Clock;
 use calendar::Date;
 use group::Indications;
+use inputs::Calls;
 use inputs::Command;
 use inputs::Mainline;
 use inputs::Metered;
@@ -100,7 +101,10 @@ fn input_of(tenth: u32, lanes: Metered, main: Mainline) -> Input {
         },
         lanes,
         main,
-        preemption: 0,
+        calls: Calls {
+            preemption: 0,
+            bypass: 0,
+        },
         manual: no_command(),
         centre: no_command(),
     }

@@ -1,4 +1,4 @@
--- No site file has more than 566 bytes, so that of a longer file the first 567 bytes decide: each section of that front is the section of
+-- No site file has more than 570 bytes, so that of a longer file the first 571 bytes decide: each section of that front is the section of
 -- the whole file, and none reaches the front's end.
 use Prim.Native.Nat.{ℕ, zero, suc, _+_, _*_, _≤_, _<_}
 use mathlib.Core.Path.{_≡_, refl, ap, sym, _∙_}
@@ -67,19 +67,19 @@ module _ (k : Section) (vs : List ℕ) (m : ℕ) (long : m ≤ length vs) (q : �
   pub same-section : (sectionOf k len ws q ≡ sectionOf k len′ vs q) × (sectionOf k len′ vs q .next ≤ q + 1 + mostOf k)
   same-section = same _ _ refl refl
 
-module _ (f : List ℕ) (long : 567 ≤ length f) where
+module _ (f : List ℕ) (long : 571 ≤ length f) where
   abbrev front : List ℕ
-  front = take 567 f
+  front = take 571 f
 
-  front-words : words front ≡ take 283 (words f)
-  front-words = words-take 283 f
+  front-words : words front ≡ take 285 (words f)
+  front-words = words-take 285 f
 
-  words-long : 283 ≤ length (words f)
+  words-long : 285 ≤ length (words f)
   words-long = omega (arith, length-words f)
 
-  section-of-front : (k : Section) (q : ℕ) → q + 1 + mostOf k ≤ 283
+  section-of-front : (k : Section) (q : ℕ) → q + 1 + mostOf k ≤ 285
       → (sectionOf k (length front) (words front) q ≡ sectionOf k (length f) (words f) q) × (sectionOf k (length f) (words f) q .next ≤ q + 1 + mostOf k)
-  section-of-front k q h = rw front-words (same-section k (words f) 283 words-long q h (length front) (length f))
+  section-of-front k q h = rw front-words (same-section k (words f) 285 words-long q h (length front) (length f))
 
   abbrev t : Found
   t = sectionOf Timings (length f) (words f) 0
@@ -100,15 +100,15 @@ module _ (f : List ℕ) (long : 567 ≤ length f) where
       let se = section-of-front Entries (t .next) (omega (arith, st .1)) in
       let sh = section-of-front Holidays (e .next) (omega (arith, st .1, se .1)) in
       let sl = section-of-front Levels (h .next) (omega (arith, st .1, se .1, sh .1)) in
-      let end : l .next * 2 < 567 = omega (arith, st .1, se .1, sh .1, sl .1) in
+      let end : l .next * 2 < 571 = omega (arith, st .1, se .1, sh .1, sl .1) in
       let whole : l .next * 2 ≡ length f → ⊥ = λ z. omega arith in
-      let cut : l .next * 2 ≡ length front → ⊥ = λ z. omega (arith, length-take-le 567 f long) in
+      let cut : l .next * 2 ≡ length front → ⊥ = λ z. omega (arith, length-take-le 571 f long) in
       rw (st .0, se .0, sh .0, sl .0, ne-eqb _ _ cut, ne-eqb _ _ whole)
 
 -- A shorter file is its own front.
-front-case : (f : List ℕ) (long : Bool) → leb 567 (length f) ≡ long → readOf (take 567 f) ≡ readOf f
-front-case f true e = long-decides f (leb-true 567 (length f) e)
-front-case f false e = ap readOf (take-all 567 f (omega (arith, leb-false 567 (length f) e)))
+front-case : (f : List ℕ) (long : Bool) → leb 571 (length f) ≡ long → readOf (take 571 f) ≡ readOf f
+front-case f true e = long-decides f (leb-true 571 (length f) e)
+front-case f false e = ap readOf (take-all 571 f (omega (arith, leb-false 571 (length f) e)))
 
-pub front-decides : (f : List ℕ) → readOf (take 567 f) ≡ readOf f
+pub front-decides : (f : List ℕ) → readOf (take 571 f) ≡ readOf f
 front-decides f = front-case f _ refl

@@ -40,7 +40,7 @@ module _ (s : List ℕ) (a : Found) (ea : a ≡ sectionOf Timings (length s) (wo
                 refusal = 0;
                 place = 0;
                 site = record {
-                  timings = filledOf Timings (words s) 0 (replicate 15 0);
+                  timings = filledOf Timings (words s) 0 (replicate 17 0);
                   entries = b .count;
                   plan = filledOf Entries (words s) (a .next) (replicate 80 0);
                   holidays = h .count;

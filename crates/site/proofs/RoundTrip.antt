@@ -84,7 +84,7 @@ module _ (x : Site) (sized : Sized x) (ok : spoiltSite x ≡ false) where
   ws = wordsOf x
 
   abbrev q₂ : ℕ
-  q₂ = 16 + 1 + sizeOf Entries (x .entries)
+  q₂ = 18 + 1 + sizeOf Entries (x .entries)
 
   abbrev q₃ : ℕ
   q₃ = q₂ + 1 + sizeOf Holidays (x .holidays)
@@ -101,15 +101,15 @@ module _ (x : Site) (sized : Sized x) (ok : spoiltSite x ≡ false) where
   s : SoundSite x
   s = sound-site x ok
 
-  at₀ : drop 0 ws ≡ partOf Timings 15 (x .timings) ++ from-entries
+  at₀ : drop 0 ws ≡ partOf Timings 17 (x .timings) ++ from-entries
   unfolding wordsOf
   at₀ = refl
 
-  at₁ : drop 16 ws ≡ partOf Entries (x .entries) (x .plan) ++ from-holidays
-  at₁ = next-back Timings 15 (x .timings) (s .timings) (sized .timings) ws 0 from-entries at₀
+  at₁ : drop 18 ws ≡ partOf Entries (x .entries) (x .plan) ++ from-holidays
+  at₁ = next-back Timings 17 (x .timings) (s .timings) (sized .timings) ws 0 from-entries at₀
 
   at₂ : drop q₂ ws ≡ partOf Holidays (x .holidays) (x .dates) ++ levels
-  at₂ = next-back Entries (x .entries) (x .plan) (s .plan) (sized .plan) ws 16 from-holidays at₁
+  at₂ = next-back Entries (x .entries) (x .plan) (s .plan) (sized .plan) ws 18 from-holidays at₁
 
   at₃ : drop q₃ ws ≡ partOf Levels (x .levels) (x .tables) ++ []
   at₃ = next-back Holidays (x .holidays) (x .dates) (s .dates) (sized .dates) ws q₂ levels at₂ ∙ sym (append-nil levels)
@@ -124,12 +124,12 @@ module _ (x : Site) (sized : Sized x) (ok : spoiltSite x ≡ false) where
     site = record { timings = t; entries = x .entries; plan = e; holidays = x .holidays; dates = h; levels = x .levels; tables = l };
   }
 
-  rows-given : given (filledOf Timings ws 0 (replicate 15 0)) (filledOf Entries ws 16 (replicate 80 0)) (filledOf Holidays ws q₂ (replicate 64 0)) (filledOf Levels ws q₃ (replicate 120 0))
+  rows-given : given (filledOf Timings ws 0 (replicate 17 0)) (filledOf Entries ws 18 (replicate 80 0)) (filledOf Holidays ws q₂ (replicate 64 0)) (filledOf Levels ws q₃ (replicate 120 0))
       ≡ record { refusal = 0; place = 0; site = x }
   rows-given =
       rw (
-        rows-back Timings 15 (x .timings) (s .timings) (sized .timings) ws 0 from-entries at₀,
-        rows-back Entries (x .entries) (x .plan) (s .plan) (sized .plan) ws 16 from-holidays at₁,
+        rows-back Timings 17 (x .timings) (s .timings) (sized .timings) ws 0 from-entries at₀,
+        rows-back Entries (x .entries) (x .plan) (s .plan) (sized .plan) ws 18 from-holidays at₁,
         rows-back Holidays (x .holidays) (x .dates) (s .dates) (sized .dates) ws q₂ levels at₂,
         rows-back Levels (x .levels) (x .tables) (s .tables) (sized .tables) ws q₃ [] at₃,
       )
@@ -140,12 +140,12 @@ module _ (x : Site) (sized : Sized x) (ok : spoiltSite x ≡ false) where
       let w : words f ≡ ws = words-bytes ws in
       let back : (k : Section) (q : ℕ) (r : Found) → sectionOf k (length f) ws q ≡ r → r ≡ sectionOf k (length f) (words f) q =
       λ k q r e. sym (ap (λ (l : List ℕ). sectionOf k (length f) l q) w ∙ e) in
-      whole f _ (back Timings 0 _ (section-back Timings 15 (x .timings) (s .timings) (sized .timings) ws 0 from-entries at₀ (length f))) refl
-      _ (back Entries 16 _ (section-back Entries (x .entries) (x .plan) (s .plan) (sized .plan) ws 16 from-holidays at₁ (length f))) refl
+      whole f _ (back Timings 0 _ (section-back Timings 17 (x .timings) (s .timings) (sized .timings) ws 0 from-entries at₀ (length f))) refl
+      _ (back Entries 18 _ (section-back Entries (x .entries) (x .plan) (s .plan) (sized .plan) ws 18 from-holidays at₁ (length f))) refl
       _ (back Holidays q₂ _ (section-back Holidays (x .holidays) (x .dates) (s .dates) (sized .dates) ws q₂ levels at₂ (length f))) refl
       _ (back Levels q₃ _ (section-back Levels (x .levels) (x .tables) (s .tables) (sized .tables) ws q₃ [] at₃ (length f))) refl
       file-end
-      ∙ ap (λ (l : List ℕ). given (filledOf Timings l 0 (replicate 15 0)) (filledOf Entries l 16 (replicate 80 0)) (filledOf Holidays l q₂ (replicate 64 0)) (filledOf Levels l q₃ (replicate 120 0))) w
+      ∙ ap (λ (l : List ℕ). given (filledOf Timings l 0 (replicate 17 0)) (filledOf Entries l 18 (replicate 80 0)) (filledOf Holidays l q₂ (replicate 64 0)) (filledOf Levels l q₃ (replicate 120 0))) w
       ∙ rows-given
 
 -- The numbers of an accepted section, with 0 after them, are written as they stood, and are not spoilt.
@@ -232,7 +232,7 @@ module _ (f : List ℕ) where
 
     abbrev back : Site
     back = record {
-      timings = filledOf Timings (words f) 0 (replicate 15 0);
+      timings = filledOf Timings (words f) 0 (replicate 17 0);
       entries = e .count;
       plan = filledOf Entries (words f) (t .next) (replicate 80 0);
       holidays = h .count;
@@ -244,7 +244,7 @@ module _ (f : List ℕ) where
     is-back : readOf f ≡ record { refusal = 0; place = 0; site = back }
     is-back = whole f t refl (is-whole .first) e refl (is-whole .second) h refl (is-whole .third) l refl (is-whole .fourth) (is-whole .end)
 
-    count₀ : 15 ≡ getD (words f) 0 0
+    count₀ : 17 ≡ getD (words f) 0 0
     count₀ = sym (eqb-true _ _ (g₀ .allowed))
 
     count₁ : e .count ≡ getD (words f) (t .next) 0
@@ -274,7 +274,7 @@ module _ (f : List ℕ) where
     words-again : wordsOf back ≡ words f
     unfolding wordsOf
     words-again =
-        from Timings 15 0 15 (t .next) _ g₀ count₀ (ap (λ (y : Found). y .next) (g₀ .is))
+        from Timings 17 0 17 (t .next) _ g₀ count₀ (ap (λ (y : Found). y .next) (g₀ .is))
         (from Entries (e .count) (t .next) 80 (e .next) _ g₁ count₁ (ap (λ (y : Found). y .next) (g₁ .is))
         (from Holidays (h .count) (e .next) 64 (h .next) _ g₂ count₂ (ap (λ (y : Found). y .next) (g₂ .is))
         (sym (append-nil (partOf Levels (l .count) (back .tables)))
@@ -287,7 +287,7 @@ module _ (f : List ℕ) where
           count₁,
           count₂,
           count₃,
-          ap (λ (n : ℕ). spoiltOf Timings n (back .timings)) count₀ ∙ unspoilt Timings (length f) (words f) 0 15 g₀,
+          ap (λ (n : ℕ). spoiltOf Timings n (back .timings)) count₀ ∙ unspoilt Timings (length f) (words f) 0 17 g₀,
           unspoilt Entries (length f) (words f) (t .next) 80 g₁,
           unspoilt Holidays (length f) (words f) (e .next) 64 g₂,
           unspoilt Levels (length f) (words f) (h .next) 120 g₃,

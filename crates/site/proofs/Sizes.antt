@@ -11,7 +11,7 @@ use Rattle.ranges.specs.Sections.{allowedOf, sizeOf, mostOf}
 use Rattle.site.specs.declared.Site.{Site}
 
 pub fits : (k : Section) (n : ℕ) → allowedOf k n ≡ true → sizeOf k n ≤ mostOf k
-fits Timings n e = omega (arith, eqb-true n 15 e)
+fits Timings n e = omega (arith, eqb-true n 17 e)
 fits Entries n e = omega (arith, leb-true n 16 e)
 fits Holidays n e = omega (arith, leb-true n 16 e)
 fits Levels n e = omega (arith, leb-true n 24 e)
@@ -24,7 +24,7 @@ no-longer Holidays = omega arith
 no-longer Levels = omega arith
 
 pub record Sized (x : Site) : Type 0 where
-  pub timings : length (x .timings) ≡ 15
+  pub timings : length (x .timings) ≡ 17
   pub plan : length (x .plan) ≡ 80
   pub dates : length (x .dates) ≡ 64
   pub tables : length (x .tables) ≡ 120

@@ -55,7 +55,7 @@ number-within k n v s j h u =
 
 -- What a record that is not spoilt tells of its four sections.
 pub record SoundSite (x : Site) : Type 0 where
-  pub timings : Sound Timings 15 (x .timings)
+  pub timings : Sound Timings 17 (x .timings)
   pub plan : Sound Entries (x .entries) (x .plan)
   pub dates : Sound Holidays (x .holidays) (x .dates)
   pub tables : Sound Levels (x .levels) (x .tables)
@@ -67,7 +67,7 @@ sound-site x z =
     let q = neither _ _ (p .1) in
     let r = neither _ _ (q .1) in
     record {
-      timings = sound Timings 15 (x .timings) (p .0);
+      timings = sound Timings 17 (x .timings) (p .0);
       plan = sound Entries (x .entries) (x .plan) (q .0);
       dates = sound Holidays (x .holidays) (x .dates) (r .0);
       tables = sound Levels (x .levels) (x .tables) (r .1);

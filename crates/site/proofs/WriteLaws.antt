@@ -26,7 +26,7 @@ four-runs o t e h l a b c et ee eh =
 
 module _ (x : Site) where
   abbrev pub timings-bytes : List ℕ
-  timings-bytes = bytes (partOf Timings 15 (x .timings))
+  timings-bytes = bytes (partOf Timings 17 (x .timings))
 
   abbrev pub entries-bytes : List ℕ
   entries-bytes = bytes (partOf Entries (x .entries) (x .plan))
@@ -40,7 +40,7 @@ module _ (x : Site) where
   is-four : bytesOf x ≡ timings-bytes ++ (entries-bytes ++ (holidays-bytes ++ levels-bytes))
   unfolding wordsOf
   is-four =
-      bytes-append (partOf Timings 15 (x .timings)) _
+      bytes-append (partOf Timings 17 (x .timings)) _
       ∙ ap (λ (l : List ℕ). timings-bytes ++ l)
       (bytes-append (partOf Entries (x .entries) (x .plan)) _ ∙ ap (λ (l : List ℕ). entries-bytes ++ l) (bytes-append (partOf Holidays (x .holidays) (x .dates)) _))
 
@@ -51,9 +51,9 @@ module _ (x : Site) where
     abbrev s : SoundSite x
     s = sound-site x ok
 
-    pub length-file : length (bytesOf x) ≡ 38 + (sizeOf Entries (x .entries) + sizeOf Holidays (x .holidays) + sizeOf Levels (x .levels)) * 2
+    pub length-file : length (bytesOf x) ≡ 42 + (sizeOf Entries (x .entries) + sizeOf Holidays (x .holidays) + sizeOf Levels (x .levels)) * 2
     length-file =
-        let t = part-length Timings 15 (x .timings) (s .timings) (sized .timings) in
+        let t = part-length Timings 17 (x .timings) (s .timings) (sized .timings) in
         let e = part-length Entries (x .entries) (x .plan) (s .plan) (sized .plan) in
         let h = part-length Holidays (x .holidays) (x .dates) (s .dates) (sized .dates) in
         let l = part-length Levels (x .levels) (x .tables) (s .tables) (sized .tables) in
@@ -61,14 +61,14 @@ module _ (x : Site) where
 
     -- The sections stored one behind the other, from the front of o on, are the file over the front of o.
     pub four-stores : (o : List ℕ) (a b c : ℕ)
-        → a ≡ 32
+        → a ≡ 36
         → b ≡ a + (2 + sizeOf Entries (x .entries) * 2)
         → c ≡ b + (2 + sizeOf Holidays (x .holidays) * 2)
         → length (bytesOf x) ≤ length o
         → sets (sets (sets (sets o 0 timings-bytes) a entries-bytes) b holidays-bytes) c levels-bytes ≡ bytesOf x ++ drop (length (bytesOf x)) o
     four-stores o a b c ea eb ec l =
         four-runs o timings-bytes entries-bytes holidays-bytes levels-bytes a b c
-        (part-length Timings 15 (x .timings) (s .timings) (sized .timings) ∙ sym ea)
+        (part-length Timings 17 (x .timings) (s .timings) (sized .timings) ∙ sym ea)
         (rw (part-length Entries (x .entries) (x .plan) (s .plan) (sized .plan)) (sym eb))
         (rw (part-length Holidays (x .holidays) (x .dates) (s .dates) (sized .dates)) (sym ec))
         ∙ ap (sets o 0) (sym is-four)

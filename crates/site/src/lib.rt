@@ -11,7 +11,7 @@ use timings::Timings;
 
 // All of a site file. A section's rows stand one behind the other; those beyond its count are 0.
 pub struct Site {
-    // 15 timings
+    // 17 timings
     pub timings: [u16; ranges::MOST_TIMING_NUMBERS],
     // how many plan entries, and their rows of 5: days, start, mode, rate, table
     pub entries: u16,
@@ -62,6 +62,8 @@ pub fn timings_of(site: Site) -> Timings
         maxpregreen: site.timings[12],
         minpregreen: site.timings[13],
         mainline: site.timings[14],
+        priority: site.timings[15],
+        timeout: site.timings[16],
     }
 }
 
@@ -73,6 +75,7 @@ pub fn shape_of(site: Site) -> Shape
     Shape {
         lanes: t.lanes,
         mainline: t.mainline,
+        priority: t.priority,
     }
 }
 

@@ -1,4 +1,4 @@
--- What is wrong with a site file, in one line: `bad entry: plan entry 2, start minute 1440, allowed 0-1439 (site.bin, byte 46)`.
+-- What is wrong with a site file, in one line: `bad entry: plan entry 2, start minute 1440, allowed 0-1439 (site.bin, byte 50)`.
 use Prim.Native.Nat.{ℕ, _*_}
 use mathlib.Core.Path.{_≡_}
 use mathlib.Core.Bool.{cond}

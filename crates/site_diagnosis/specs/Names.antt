@@ -25,7 +25,7 @@ rowText Levels = ascii "level"
 -- The name of number i of a section: a timing's, or that of its column.
 abbrev pub nameText : Section → ℕ → List ℕ
 nameText Timings i =
-    item (ascii "lanes,service mode,vehicles per green,minimum green,maximum green,yellow,minimum red,startup warning,startup green,startup yellow,startup red,shutdown red,maximum pre-metering green,minimum pre-metering green,mainline lanes")
+    item (ascii "lanes,service mode,vehicles per green,minimum green,maximum green,yellow,minimum red,startup warning,startup green,startup yellow,startup red,shutdown red,maximum pre-metering green,minimum pre-metering green,mainline lanes,priority lane,bypass timeout")
     i
 nameText Entries i = item (ascii "days,start minute,mode,rate,level table") (columnOf Entries i)
 nameText Holidays i = item (ascii "kind,month,day or week,weekday") (columnOf Holidays i)

@@ -36,7 +36,7 @@ fn put_name(out: &mut [u8], at: usize, section: Section, i: usize) -> usize
         Section::Timings => text::put_item(
             out,
             at,
-            b"lanes,service mode,vehicles per green,minimum green,maximum green,yellow,minimum red,startup warning,startup green,startup yellow,startup red,shutdown red,maximum pre-metering green,minimum pre-metering green,mainline lanes",
+            b"lanes,service mode,vehicles per green,minimum green,maximum green,yellow,minimum red,startup warning,startup green,startup yellow,startup red,shutdown red,maximum pre-metering green,minimum pre-metering green,mainline lanes,priority lane,bypass timeout",
             i,
         ),
         Section::Entries => text::put_item(

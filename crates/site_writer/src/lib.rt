@@ -35,7 +35,7 @@ fn file_size(site: Site) -> usize
     let entries = ranges::size(Section::Entries, site.entries);
     let holidays = ranges::size(Section::Holidays, site.holidays);
     let levels = ranges::size(Section::Levels, site.levels);
-    38 + (entries + holidays + levels) * 2
+    42 + (entries + holidays + levels) * 2
 }
 
 // Writes the record's file over the front of out, and gives the byte behind it.

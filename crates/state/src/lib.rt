@@ -19,7 +19,7 @@ pub fn spoilt(s: State, shape: Shape) -> bool
     ensures { λ r. ⌜ r ≡ stateSpoilt s shape ⌝ }
 {
     let group = s.group;
-    if group::group_spoilt(group, shape.lanes) {
+    if group::group_spoilt(group, shape.lanes, shape.priority) {
         return true;
     }
     let periods = s.periods;
@@ -36,6 +36,7 @@ pub fn fresh(n: u16) -> State
             interval: group::INITIALIZATION,
             age: 0,
             lanes,
+            bypass: bypass::none(),
         },
         periods: period::no_periods(),
     }
@@ -57,6 +58,7 @@ pub fn zero() -> State
                 offset: 0,
                 last: 0,
             },
+            bypass: bypass::none(),
         },
         periods: period::no_periods(),
     }

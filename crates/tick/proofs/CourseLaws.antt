@@ -91,7 +91,7 @@ module _ (x : Site) (ok : spoiltSite x ≡ false) where
         let i = call .input in
         record {
           good = tick-keeps x s i a;
-          chain = chain-moved (timingsOf x) sound (i .preemption) (decidedIn x s i .wish) (cycleIn x s i) (i .lanes) (s .group) (going .good .group) (going .chain);
+          chain = chain-moved (timingsOf x) sound (timings-good x ok .priority-most) (i .calls) (decidedIn x s i .wish) (cycleIn x s i) (i .lanes) (s .group) (going .good .group) (going .chain);
           lamps = λ _. refl;
         }
 

@@ -2,3 +2,4 @@ pub mod TickLaws
 pub mod CourseLaws
 pub mod WaitingLaws
 pub mod PreemptionLaws
+pub mod ServingLaws

@@ -29,7 +29,7 @@ module _ (x : Site) (ok : spoiltSite x ≡ false) where
   module _ (c : Course) (call : Call) (going : Going x ok c) (given : isAccepted c call ≡ true → Given c call) where
     -- The group after it, by the rules.
     abbrev moved : ℕ → Group
-    moved preemption = movedOf (timingsOf x) preemption (decidedIn x (c .state) (call .input) .wish) (cycleIn x (c .state) (call .input)) (call .input .lanes) (c .state .group) .group
+    moved preemption = movedOf (timingsOf x) (record { preemption = preemption; bypass = call .input .calls .bypass }) (decidedIn x (c .state) (call .input) .wish) (cycleIn x (c .state) (call .input)) (call .input .lanes) (c .state .group) .group
 
     group-after : isAccepted c call ≡ true → onward c call .state .group ≡ moved 1
     unfolding movedIn
@@ -63,13 +63,13 @@ module _ (x : Site) (ok : spoiltSite x ≡ false) where
 
   in-range : (c : Course) → Going x ok c
       → (1 ≤ groupClearIn (timingsOf x) (c .state .group)) × (groupClearIn (timingsOf x) (c .state .group) ≤ clearingTicks (timingsOf x))
-  in-range c going = clear-within (timingsOf x) (timings-good x ok) (c .state .group) (going .good .group)
+  in-range c going = clear-within (timingsOf x) (timings-good x ok) _ (c .state .group) (going .good .group)
 
   falls : (c : Course) (call : Call) → Going x ok c → isAccepted c call ≡ true → Given c call → Called c call → clears c call ≡ false → rank (onward c call) < rank c
   unfolding clears onward
   falls c call going e given called none =
       let next = in-range (onward c call) (on c call going (λ _. given)) in
-      let nearer = clear-falls (timingsOf x) (timings-good x ok) (decidedIn x (c .state) (call .input) .wish) (cycleIn x (c .state) (call .input)) (call .input .lanes) (c .state .group) (going .good .group) in
+      let nearer = clear-falls (timingsOf x) (timings-good x ok) (call .input .calls .bypass) (decidedIn x (c .state) (call .input) .wish) (cycleIn x (c .state) (call .input)) (call .input .lanes) (c .state .group) (going .good .group) in
       let after = group-after c call going (λ _. given) e in
       let fewer : groupClearIn (timingsOf x) (onward c call .state .group) < groupClearIn (timingsOf x) (c .state .group) =
       rw after (nearer (sym (ap (λ (g : Group). isPreMetering (g .interval)) after) ∙ none)) in

@@ -11,7 +11,7 @@ use Rattle.site.specs.Record.{spoiltSite}
 use Rattle.site.specs.Named.{timingsOf, meteredLanes, mainlineLanes, shapeOf}
 use Rattle.site.proofs.TimingLaws.{timings-good}
 use Rattle.calendar.specs.Clock.{clockBad}
-use Rattle.inputs.specs.Samples.{samplesBad, callBad}
+use Rattle.inputs.specs.Samples.{samplesBad, callsBad}
 use Rattle.inputs.specs.Commands.{commandsBad}
 use Rattle.period.proofs.RangeLaws.{periods-released}
 use Rattle.wanted.specs.declared.wish.Wish.{Wish}
@@ -32,6 +32,8 @@ use Rattle.state.specs.declared.State.{State}
 use Rattle.state.specs.State.{stateSpoilt}
 use Rattle.state.proofs.StateLaws.{StateGood, state-good}
 use Rattle.waiting.proofs.LaneRank.{Sound}
+use Rattle.serving.specs.Bypassed.{Bypassed}
+use Rattle.serving.proofs.BypassedLaws.{bypassed}
 use Rattle.tick.specs.declared.Input.{Input}
 use Rattle.tick.specs.Checks.{sampleBad, inputRefusal, tickRefusal}
 use Rattle.tick.specs.Tick.{countedIn, decidedIn, cycleIn, movedIn, acceptedTick}
@@ -56,7 +58,7 @@ accepted x s i e =
     let q = passes (stateSpoilt s (shapeOf x)) 13 _ (omega arith) (p .1) in
     let r = passes (clockBad (i .clock)) 8 _ (omega arith) (q .1) in
     let u = passes (sampleBad (shapeOf x) i) 9 _ (omega arith) (r .1) in
-    let w = neither (samplesBad (i .lanes) (i .main) (meteredLanes x) (mainlineLanes x)) (callBad (i .preemption)) (u .0) .0 in
+    let w = neither (samplesBad (i .lanes) (i .main) (meteredLanes x) (mainlineLanes x)) (callsBad (i .calls)) (u .0) .0 in
     let v = passes (commandsBad (i .manual) (i .centre)) 10 0 (omega arith) (u .1) in
     record { site = p .0; state = q .0; clock = r .0; samples = w; commands = v .0 }
 
@@ -126,11 +128,11 @@ module _ (x : Site) (s : State) (i : Input) (a : Accepted x s i) where
       rate-cases (decidedIn x s i .wish) (λ r. cycleTicks vehicles r ≤ 720) wish-in (rw (no-cycle vehicles) (omega arith))
       (λ r h. cycle-most vehicles r (g .vehicles-most) h)
 
-  pub some-cycle : fromMetering (steeredWish (i .preemption) (decidedIn x s i .wish)) ≡ 7 → 1 ≤ cycleIn x s i
+  pub some-cycle : fromMetering (steeredWish (i .calls .preemption) (decidedIn x s i .wish)) ≡ 7 → 1 ≤ cycleIn x s i
   unfolding cycleIn steeredWish
   some-cycle e =
       let g = timings-good x (a .site) in
-      by-test (eqb (i .preemption) 1)
+      by-test (eqb (i .calls .preemption) 1)
       (λ p. let y : fromMetering Clear ≡ 7 = rw p at e in absurd (omega arith))
       (λ p. some-of-wish (timingsOf x .vehicles) (g .vehicles-least) (g .vehicles-most) (decidedIn x s i .wish) wish-in (rw p at e))
 
@@ -141,15 +143,24 @@ module _ (x : Site) (s : State) (i : Input) (a : Accepted x s i) where
       let m = mainlineLanes x in
       let g = state-good s (shapeOf x) (a .state) in
       let h = timings-good x (a .site) .lanes-least in
+      let p = timings-good x (a .site) .priority-most in
       let wish = decidedIn x s i .wish in
       record {
-        group = moved-good (timingsOf x) (i .preemption) wish (cycleIn x s i) (i .lanes) (s .group) h (g .group);
+        group = moved-good (timingsOf x) (i .calls) wish (cycleIn x s i) (i .lanes) (s .group) h p (g .group);
         periods = periods-released (s .periods) (i .lanes) (i .main) n m _ (g .periods) (a .samples)
-            (moved-released (timingsOf x) (i .preemption) wish (cycleIn x s i) (i .lanes) (s .group) h (g .group));
+            (moved-released (timingsOf x) (i .calls) wish (cycleIn x s i) (i .lanes) (s .group) h p (g .group));
       }
+
+  -- What it makes of a bypass is what the request's words say.
+  pub tick-bypassed : Bypassed (timingsOf x) (i .calls) (acceptedTick x s i .decision .wish) (acceptedTick x s i .cycle) (i .lanes) (s .group)
+      (record { group = acceptedTick x s i .state .group; released = acceptedTick x s i .released })
+  unfolding acceptedTick movedIn
+  tick-bypassed =
+      bypassed (timingsOf x) (timings-good x (a .site)) (i .calls) (decidedIn x s i .wish) (cycleIn x s i) (i .lanes) (s .group)
+      (state-good s (shapeOf x) (a .state) .group)
 
 -- Its interval is that of the request's words, under the wish that it gives.
 pub tick-steered : (x : Site) (s : State) (i : Input)
-    → Steered (timingsOf x) (i .preemption) (acceptedTick x s i .decision .wish) (s .group) (acceptedTick x s i .state .group .interval)
+    → Steered (timingsOf x) (i .calls .preemption) (acceptedTick x s i .decision .wish) (s .group) (acceptedTick x s i .state .group .interval)
 unfolding acceptedTick movedIn movedOf movedWith groupOf
-tick-steered x s i = steered (timingsOf x) (i .preemption) (decidedIn x s i .wish) (s .group)
+tick-steered x s i = steered (timingsOf x) (i .calls .preemption) (decidedIn x s i .wish) (s .group)

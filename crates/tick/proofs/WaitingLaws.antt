@@ -34,7 +34,7 @@ use Rattle.tick.proofs.TickLaws.{cycle-in, some-cycle}
 use Rattle.tick.proofs.CourseLaws.{stays, sound, Going, before-part, passed, answer, keeps, group-is, released-is}
 
 -- What lane j shows.
-colours-at : (g : Group) (n j : ℕ) → j < 4 → getD (indicationsOf g n .colours) j 0 ≡ laneShown g n j
+pub colours-at : (g : Group) (n j : ℕ) → j < 4 → getD (indicationsOf g n .colours) j 0 ≡ laneShown g n j
 unfolding indicationsOf
 colours-at g n j h = at-four (laneShown g n) j h
 
@@ -78,6 +78,10 @@ module _ (x : Site) (ok : spoiltSite x ≡ false) where
       unfolding acceptedTick
       metering-after e = subst (λ (r : Ticked). r .state .group .interval ≡ 7) (answer x ok c call going same e) (w e .metering)
 
+      none-after : isAccepted c call ≡ true → movedIn x s i .group .bypass .kept ≡ false
+      unfolding acceptedTick
+      none-after e = subst (λ (r : Ticked). r .state .group .bypass .kept ≡ false) (answer x ok c call going same e) (w e .bypass)
+
       demand-on : isAccepted c call ≡ true → getD (i .lanes .demand) j 0 ≡ 1
       demand-on e = let back : j + 1 - 1 ≡ j = omega arith in rw back at (w e .demand)
 
@@ -86,8 +90,8 @@ module _ (x : Site) (ok : spoiltSite x ≡ false) where
       unfolding movedIn
       rank-falls e miss =
           rw (group-is x ok c call going same e)
-          (group-falls (timingsOf x) (sound x ok) least j in-site (i .preemption) (decidedIn x s i .wish) (cycleIn x s i) (i .lanes) (s .group) (going .good .group) (going .chain)
-          (omega arith) (some-cycle x s i (passed x ok c call going same e)) (cycle-small e) (demand-on e) (metering-after e) miss)
+          (group-falls (timingsOf x) (sound x ok) least j in-site (timings-good x ok .priority-most) (i .calls) (decidedIn x s i .wish) (cycleIn x s i) (i .lanes) (s .group) (going .good .group) (going .chain)
+          (omega arith) (some-cycle x s i (passed x ok c call going same e)) (cycle-small e) (demand-on e) (metering-after e) (none-after e) miss)
 
       -- and at one that does, its green begins.
       begins : (e : isAccepted c call ≡ true) → eqb (movedIn x s i .released) (j + 1) ≡ true → greenBegins (j + 1) c call ≡ true
@@ -97,8 +101,8 @@ module _ (x : Site) (ok : spoiltSite x ≡ false) where
           let place : j < 4 = omega (arith, timings-good x ok .lanes-most) in
           let n = meteredLanes x in
           let g = movedIn x s i .group in
-          let before = shown-red (timingsOf x) (sound x ok) least j in-site (i .preemption) (decidedIn x s i .wish) (cycleIn x s i) (i .lanes) (s .group) (going .good .group) (going .chain) hit in
-          let after = shown-green (timingsOf x) (sound x ok) least j in-site (i .preemption) (decidedIn x s i .wish) (cycleIn x s i) (i .lanes) (s .group) (going .good .group) (going .chain) hit in
+          let before = shown-red (timingsOf x) (sound x ok) least j in-site (timings-good x ok .priority-most) (i .calls) (decidedIn x s i .wish) (cycleIn x s i) (i .lanes) (s .group) (going .good .group) (going .chain) (none-after e) hit in
+          let after = shown-green (timingsOf x) (sound x ok) least j in-site (timings-good x ok .priority-most) (i .calls) (decidedIn x s i .wish) (cycleIn x s i) (i .lanes) (s .group) (going .good .group) (going .chain) (none-after e) hit in
           let red : getD (c .shown .colours) j 0 ≡ 1 =
           ap (λ (d : Indications). getD (d .colours) j 0) (going .lamps (before .0)) ∙ colours-at (s .group) n j place ∙ before .1 in
           let green : getD (answerTo c call .shown .colours) j 0 ≡ 3 =
@@ -127,7 +131,7 @@ waiting-bound x ok before run same i most least in-site waiting long =
     let j = i - 1 in
     let place : i ≡ j + 1 = omega arith in
     let hj : j < meteredLanes x = omega arith in
-    let low = group-rank-most t (sound x ok) (min most 720) j (lanes-are hj) (c .state .group) (good-group-of (going .good .group)) (going .chain) in
+    let low = group-rank-most t (sound x ok) (min most 720) j (lanes-are hj) _ (c .state .group) (good-group-of (going .good .group)) (going .chain) in
     subst (λ (k : ℕ). beginsWithin k (waitingBound t most) c run ≡ true) (sym place)
     (within onward isAccepted (Going x ok) (λ c call. call .site ≡ x) (keeps x ok) (Waits (j + 1) most) (greenBegins (j + 1)) (rank-of x ok most j hj) stays
     (falls x ok most j hj) (waitingBound t most) c run going (part .1)
@@ -137,5 +141,5 @@ waiting-bound x ok before run same i most least in-site waiting long =
     lanes-are : {j : ℕ} → j < meteredLanes x → j < timingsOf x .lanes
     lanes-are h = h
 
-    good-group-of : {g : Group} → GroupGood g (meteredLanes x) → GroupGood g (timingsOf x .lanes)
+    good-group-of : {g : Group} → GroupGood g (meteredLanes x) (timingsOf x .priority) → GroupGood g (timingsOf x .lanes) (timingsOf x .priority)
     good-group-of v = v

@@ -5,18 +5,16 @@ use Rattle.timings.specs.declared.Shape.{Shape}
 use Rattle.site.specs.declared.Site.{Site}
 use Rattle.site.specs.Record.{spoiltSite}
 use Rattle.site.specs.Named.{shapeOf}
-use Rattle.calendar.specs.declared.clock.Clock.{Clock}
 use Rattle.calendar.specs.Clock.{clockBad}
-use Rattle.inputs.specs.declared.Command.{Command}
-use Rattle.inputs.specs.Samples.{samplesBad, callBad}
+use Rattle.inputs.specs.Samples.{samplesBad, callsBad}
 use Rattle.inputs.specs.Commands.{commandsBad}
 use Rattle.state.specs.declared.State.{State}
 use Rattle.state.specs.State.{stateSpoilt}
 use Rattle.tick.specs.declared.Input.{Input}
 
--- 9: a detector's sample, or that of the fire service's call.
+-- 9: a detector's sample, or that of the fire service's call or of a bus's.
 unfoldable pub sampleBad : Shape → Input → Bool
-sampleBad h i = samplesBad (i .lanes) (i .main) (h .lanes) (h .mainline) || callBad (i .preemption)
+sampleBad h i = samplesBad (i .lanes) (i .main) (h .lanes) (h .mainline) || callsBad (i .calls)
 
 -- 8, 9, 10: the checks of one tick's input, at a site of this shape.
 unfoldable pub inputRefusal : Shape → Input → ℕ

@@ -4,3 +4,4 @@ pub mod Cycle
 pub mod Course
 pub mod Waiting
 pub mod Preemption
+pub mod Serving

@@ -13,7 +13,7 @@ use Rattle.tick.specs.Course.{Call, Course, atPowerUp, answerTo, isAccep
 
 -- The call is on at a tick.
 abbrev pub Called : Course → Call → Type 0
-Called c call = call .input .preemption ≡ 1
+Called c call = call .input .calls .preemption ≡ 1
 
 -- The group's interval, as a list of ticks has left it.
 abbrev pub intervalAfter : Course → List Call → ℕ

@@ -11,6 +11,8 @@ use Rattle.wanted.specs.declared.Decision.{Decision}
 use Rattle.wanted.specs.Wish.{rateOf}
 use Rattle.wanted.specs.Decision.{decisionOf, noDecision}
 use Rattle.release.specs.Cycle.{cycleTicks}
+use Rattle.bypass.specs.declared.Doing.the-variants.{None}
+use Rattle.bypass.specs.Lanes.{doingOf}
 use Rattle.group.specs.declared.Moved.{Moved}
 use Rattle.group.specs.Group.{movedOf}
 use Rattle.group.specs.Indications.{indicationsOf, allDark}
@@ -38,7 +40,7 @@ unfoldable pub cycleIn : Site → State → Input → ℕ
 cycleIn x s i = cycleTicks (timingsOf x .vehicles) (rateOf (decidedIn x s i .wish))
 
 unfoldable pub movedIn : Site → State → Input → Moved
-movedIn x s i = movedOf (timingsOf x) (i .preemption) (decidedIn x s i .wish) (cycleIn x s i) (i .lanes) (s .group)
+movedIn x s i = movedOf (timingsOf x) (i .calls) (decidedIn x s i .wish) (cycleIn x s i) (i .lanes) (s .group)
 
 unfoldable pub acceptedTick : Site → State → Input → Ticked
 acceptedTick x s i =
@@ -50,10 +52,11 @@ acceptedTick x s i =
       decision = decidedIn x s i;
       cycle = cycleIn x s i;
       released = moved .released;
+      bypass = doingOf (timingsOf x) (moved .group .bypass) (moved .group .lanes);
     }
 
 -- "A refused tick returns the state that came. After 13 or 14 its indications are all dark with the sign off; after 8-10 they are those of
--- that state." It decided nothing.
+-- that state." It decided nothing, and names no bypass, also where one is kept.
 unfoldable pub refusedTick : Site → State → ℕ → Ticked
 refusedTick x s refusal = record {
   refusal = refusal;
@@ -62,6 +65,7 @@ refusedTick x s refusal = record {
   decision = noDecision;
   cycle = 0;
   released = 0;
+  bypass = None;
 }
 
 unfoldable pub tickOf : Site → State → Input → Ticked

@@ -13,9 +13,11 @@ use Rattle.waiting.specs.Bound.{waitingBound}
 use Rattle.tick.specs.Course.{Call, Course, atPowerUp, answerTo, isAccepted, onward, courseAfter, AtAccepted, acceptedTicks}
 
 -- Lane i, from 1, waits at a tick: "the lane's demand is on, the group, the tick done, is in metering, and no cycle in force exceeds C".
--- "The waiting bound covers ticks without preemption" (document 02, A1).
+-- "The waiting bound covers ticks without preemption" (document 02, A1), and while a bypass waits or runs it "says nothing" (A4): none is
+-- kept, the tick done.
 pub record Waits (i most : ℕ) (c : Course) (call : Call) : Type 0 where
-  pub preemption : call .input .preemption ≡ 0
+  pub preemption : call .input .calls .preemption ≡ 0
+  pub bypass : answerTo c call .state .group .bypass .kept ≡ false
   pub demand : getD (call .input .lanes .demand) (i - 1) 0 ≡ 1
   pub metering : answerTo c call .state .group .interval ≡ 7
   pub cycle : answerTo c call .cycle ≤ most

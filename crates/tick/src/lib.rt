@@ -7,14 +7,18 @@ ghost use Rattle.wanted.specs.Wish.{rateOf};
 ghost use Rattle.wanted.specs.Decision.{EntryInForce};
 ghost use Rattle.release.specs.Cycle.{cycleTicks};
 ghost use Rattle.group.specs.Steered.{Steered};
+ghost use Rattle.serving.specs.Bypassed.{Bypassed};
 ghost use Rattle.state.specs.State.{stateSpoilt};
 ghost use Rattle.tick.specs.Checks.{sampleBad, inputRefusal, tickRefusal};
 ghost use Rattle.tick.specs.Tick.{powerUpOf, acceptedTick, refusedTick, tickOf};
 ghost use Rattle.tick.specs.Cycle.{Cycled};
 ghost use Rattle.tick.specs.Waiting.{WaitingBound};
 ghost use Rattle.tick.specs.Preemption.{PreemptionClears};
+ghost use Rattle.tick.specs.Serving.{BusServed, BusHeld};
+use bypass::Doing;
 use calendar::Clock;
 use group::Indications;
+use inputs::Calls;
 use inputs::Command;
 use inputs::Mainline;
 use inputs::Metered;
@@ -24,19 +28,20 @@ use timings::Shape;
 use wanted::Decision;
 use wanted::Wish;
 
-// What a tick is given: the clock, the detectors' samples, the fire service's call (1 while it is on),
-// the technician's command and the control centre's.
+// What a tick is given: the clock, the detectors' samples, the calls of the fire service and of a
+// bus, the technician's command and the control centre's.
 pub struct Input {
     pub clock: Clock,
     pub lanes: Metered,
     pub main: Mainline,
-    pub preemption: u16,
+    pub calls: Calls,
     pub manual: Command,
     pub centre: Command,
 }
 
 // What a tick gives: the refusal, or 0; the state and the lamps; what was decided, the cycle of a wish
-// to meter or 0, and the lane released, from 1, or 0.
+// to meter or 0, the lane released, from 1, or 0, and what the bus bypass does: of a refused tick
+// nothing, whatever is kept.
 pub struct Ticked {
     pub refusal: u8,
     pub state: State,
@@ -44,6 +49,7 @@ pub struct Ticked {
     pub decision: Decision,
     pub cycle: u16,
     pub released: u16,
+    pub bypass: Doing,
 }
 
 // What power-up gives: the refusal, or 0, and the state.
@@ -52,13 +58,14 @@ pub struct PoweredUp {
     pub state: State,
 }
 
-// The state from which ticks begin. Whatever they are given, no waiting lane is passed over for long,
-// and the fire service's call soon finds the ramp dark or green, and holds it so.
+// The state from which ticks begin. What it promises of them is what `tick` does.
 pub fn power_up(site: Site) -> PoweredUp
     ensures is { λ r. ⌜ r ≡ powerUpOf site ⌝ }
     ensures kept { λ r. ⌜ (r .refusal ≡ 0 → stateSpoilt (r .state) (shapeOf site) ≡ false) ⌝ }
     ensures waits { λ _. ⌜ WaitingBound site ⌝ }
     ensures clears { λ _. ⌜ PreemptionClears site ⌝ }
+    ensures serves { λ _. ⌜ BusServed site ⌝ }
+    ensures holds { λ _. ⌜ BusHeld site ⌝ }
 {
     if site::spoilt(site) {
         return PoweredUp {
@@ -72,7 +79,7 @@ pub fn power_up(site: Site) -> PoweredUp
     }
 }
 
-// Whether a detector's sample or the call's is out of range.
+// Whether a detector's sample or a call's is out of range.
 fn sample_bad(shape: Shape, input: Input) -> bool
     ensures { λ r. ⌜ r ≡ sampleBad shape input ⌝ }
 {
@@ -81,7 +88,8 @@ fn sample_bad(shape: Shape, input: Input) -> bool
     if inputs::samples_bad(lanes, main, shape.lanes, shape.mainline) {
         return true;
     }
-    inputs::call_bad(input.preemption)
+    let calls = input.calls;
+    inputs::calls_bad(calls)
 }
 
 // Which check refuses a tick's input, or 0.
@@ -144,8 +152,11 @@ fn advance(site: Site, state: State, input: Input) -> Ticked
     let wish = decision.wish;
     let cycle = cycle_of(t.vehicles, wish);
     let group = state.group;
-    let moved = group::tick(t, input.preemption, wish, cycle, lanes, group);
+    let calls = input.calls;
+    let moved = group::tick(t, calls, wish, cycle, lanes, group);
     let after = moved.group;
+    let standing = after.lanes;
+    let bypass = after.bypass;
     Ticked {
         refusal: 0, // no check refuses
         state: State {
@@ -156,6 +167,7 @@ fn advance(site: Site, state: State, input: Input) -> Ticked
         decision,
         cycle,
         released: moved.released,
+        bypass: bypass::does(t, bypass, standing),
     }
 }
 
@@ -173,6 +185,7 @@ fn refused(site: Site, state: State, refusal: u8) -> Ticked
             decision,
             cycle: 0,
             released: 0,
+            bypass: Doing::None,
         };
     }
     Ticked {
@@ -182,19 +195,24 @@ fn refused(site: Site, state: State, refusal: u8) -> Ticked
         decision,
         cycle: 0,
         released: 0,
+        bypass: Doing::None,
     }
 }
 
-// One tick. Over the ticks since power-up no waiting lane is passed over for long, and the fire
-// service's call soon finds the ramp dark or green, and holds it so.
+// One tick. Over the ticks since power-up no waiting lane is passed over for long; the fire service's
+// call soon finds the ramp dark or green, and holds it so; and a bus, while its call, metering and its
+// timeout last, soon finds its lane green, which stays green until its bypass ends.
 pub fn tick(site: Site, state: State, input: Input) -> Ticked
     ensures is { λ r. ⌜ r ≡ tickOf site state input ⌝ }
     ensures kept { λ r. ⌜ (r .refusal ≡ 0 → stateSpoilt (r .state) (shapeOf site) ≡ false) ⌝ }
     ensures entry { λ r. ⌜ (r .refusal ≡ 0 → EntryInForce site (input .clock) (r .decision .entry)) ⌝ }
-    ensures steered { λ r. ⌜ (r .refusal ≡ 0 → Steered (timingsOf site) (input .preemption) (r .decision .wish) (state .group) (r .state .group .interval)) ⌝ }
+    ensures steered { λ r. ⌜ (r .refusal ≡ 0 → Steered (timingsOf site) (input .calls .preemption) (r .decision .wish) (state .group) (r .state .group .interval)) ⌝ }
     ensures cycled { λ r. ⌜ (r .refusal ≡ 0 → Cycled (timingsOf site .vehicles) (r .decision .wish) (r .cycle)) ⌝ }
+    ensures bypassed { λ r. ⌜ (r .refusal ≡ 0 → Bypassed (timingsOf site) (input .calls) (r .decision .wish) (r .cycle) (input .lanes) (state .group) (record { group = r .state .group; released = r .released })) ⌝ }
     ensures waits { λ _. ⌜ WaitingBound site ⌝ }
     ensures clears { λ _. ⌜ PreemptionClears site ⌝ }
+    ensures serves { λ _. ⌜ BusServed site ⌝ }
+    ensures holds { λ _. ⌜ BusHeld site ⌝ }
 {
     let refusal = refusal_of(site, state, input);
     if refusal != 0 {

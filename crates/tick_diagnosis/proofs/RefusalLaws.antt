@@ -17,8 +17,9 @@ use Rattle.calendar.specs.Dates.{years, months, daysOf, isDate}
 use Rattle.calendar.specs.Clock.{tenths, clockBad}
 use Rattle.inputs.specs.declared.MeteredSample.{MeteredSample}
 use Rattle.inputs.specs.declared.LaneSample.{LaneSample}
+use Rattle.inputs.specs.declared.Calls.{Calls}
 use Rattle.inputs.specs.declared.Command.{Command}
-use Rattle.inputs.specs.Samples.{meteredSampleOf, laneSampleOf, flags, occupancies, speeds, meteredBad, laneBad, samplesBad, callBad}
+use Rattle.inputs.specs.Samples.{meteredSampleOf, laneSampleOf, flags, occupancies, speeds, meteredBad, laneBad, samplesBad, callsBad}
 use Rattle.inputs.specs.Commands.{kinds, carriesNothing, commandBad, commandsBad}
 use Rattle.tick.specs.declared.Input.{Input}
 use Rattle.tick.specs.Checks.{sampleBad, inputRefusal}
@@ -104,9 +105,11 @@ says-mainline j s =
     rw (← above (flags .high) (s .working), ← above (occupancies .high) (s .occupied), ← above (flags .high) (s .vehicles), ← above (speeds .high) (s .speed))
     (says-first (says-number _ _ _ _ refl) (says-first (says-number _ _ _ _ refl) (says-first (says-number _ _ _ _ refl) (says-number _ _ _ _ refl))))
 
-says-calls : (preemption : ℕ) → Says (inCalls preemption) 9 (callBad preemption)
-unfolding inCalls callBad
-says-calls preemption = rw (← above (flags .high) preemption) (says-number _ _ _ _ refl)
+says-calls : (calls : Calls) → Says (inCalls calls) 9 (callsBad calls)
+unfolding inCalls callsBad
+says-calls calls =
+    rw (← above (flags .high) (calls .preemption), ← above (flags .high) (calls .bypass))
+    (says-first (says-number _ _ _ _ refl) (says-number _ _ _ _ refl))
 
 -- Kind 0 has neither rate nor table, and is itself in range.
 in-nothing : (r t : Bool) → (not r || not t) ≡ not (r && t)
@@ -135,14 +138,14 @@ unfolding firstBad inLanes inputRefusal sampleBad samplesBad commandsBad
 told-is h i =
     let centre = inCommand Communications (i .centre) in
     let commands = firstOf (inCommand Manual (i .manual)) centre in
-    let calls = firstOf (inCalls (i .preemption)) commands in
+    let calls = firstOf (inCalls (i .calls)) commands in
     let main = firstFrom (λ k. inMainline k (laneSampleOf (i .main) k)) 0 (h .mainline) calls in
     let lanes = firstFrom (λ k. inMetered k (meteredSampleOf (i .lanes) k)) 0 (h .lanes) main in
     rw (
       told-first lanes (says-clock (i .clock)),
       told-from _ _ 9 main (λ k. says-metered k (meteredSampleOf (i .lanes) k)) 0 (h .lanes),
       told-from _ _ 9 calls (λ k. says-mainline k (laneSampleOf (i .main) k)) 0 (h .mainline),
-      told-first commands (says-calls (i .preemption)),
+      told-first commands (says-calls (i .calls)),
       told-first centre (says-command Manual refl (i .manual)),
       told-one (says-command Communications refl (i .centre)),
       cond-or _ _ 9 _,

@@ -34,6 +34,6 @@ abbrev pub nameText : Part → ℕ → List ℕ
 nameText TheClock column = item (ascii "year,month,day,tenth") column
 nameText (MeteredLane i) column = item (ascii "demand,passage") column
 nameText (MainlineLane j) column = item (ascii "working,occupied,vehicles,speed") column
-nameText TheCalls column = item (ascii "preemption") column
+nameText TheCalls column = item (ascii "preemption,bypass") column
 nameText Manual column = item (ascii "kind,rate,table") column
 nameText Communications column = item (ascii "kind,rate,table") column

@@ -10,6 +10,7 @@ use Rattle.calendar.specs.Dates.{years, months, daysOf}
 use Rattle.calendar.specs.Clock.{tenths}
 use Rattle.inputs.specs.declared.MeteredSample.{MeteredSample}
 use Rattle.inputs.specs.declared.LaneSample.{LaneSample}
+use Rattle.inputs.specs.declared.Calls.{Calls}
 use Rattle.inputs.specs.declared.Command.{Command}
 use Rattle.inputs.specs.Samples.{meteredSampleOf, laneSampleOf, flags, occupancies, speeds}
 use Rattle.inputs.specs.Commands.{kinds}
@@ -51,9 +52,9 @@ inMainline j s =
     (firstOf (numberOf (MainlineLane j) 2 (s .vehicles) flags)
     (numberOf (MainlineLane j) 3 (s .speed) speeds)))
 
--- The calls: preemption.
-unfoldable pub inCalls : ℕ → Number
-inCalls preemption = numberOf TheCalls 0 preemption flags
+-- The calls: preemption, bypass.
+unfoldable pub inCalls : Calls → Number
+inCalls calls = firstOf (numberOf TheCalls 0 (calls .preemption) flags) (numberOf TheCalls 1 (calls .bypass) flags)
 
 -- A command's kinds 1 to 4 are an entry's modes 0 to 3. Kind 0 has neither rate nor table, as mode 0 has none.
 unfoldable pub modeOf : ℕ → ℕ
@@ -77,4 +78,4 @@ unfoldable pub firstBad : Shape → Input → Number
 firstBad h i =
     firstOf (inClock (i .clock))
     (inLanes h i
-    (firstOf (inCalls (i .preemption)) (firstOf (inCommand Manual (i .manual)) (inCommand Communications (i .centre)))))
+    (firstOf (inCalls (i .calls)) (firstOf (inCommand Manual (i .manual)) (inCommand Communications (i .centre)))))

@@ -53,7 +53,7 @@ pub fn put_name(out: &mut [u8], at: usize, part: Part, column: usize) -> usize
             b"working,occupied,vehicles,speed",
             column,
         ),
-        Part::TheCalls => text::put_item(out, at, b"preemption", column),
+        Part::TheCalls => text::put_item(out, at, b"preemption,bypass", column),
         Part::Manual => text::put_item(out, at, b"kind,rate,table", column),
         Part::Communications => text::put_item(out, at, b"kind,rate,table", column),
     }

@@ -5,6 +5,7 @@ ghost use Rattle.numbers.specs.Within.{between, isWithin};
 ghost use Rattle.inputs.specs.Samples.{meteredSampleOf, laneSampleOf};
 ghost use Rattle.tick_diagnosis.specs.Numbers.{numberOf, firstOf, firstFrom, inClock, inMetered, inMainline, inCalls, modeOf, inCommand, inLanes, firstBad};
 use calendar::Clock;
+use inputs::Calls;
 use inputs::Command;
 use inputs::LaneSample;
 use inputs::Mainline;
@@ -125,10 +126,12 @@ fn in_mainline(j: u16, s: LaneSample) -> Number
     first(working, first(occupied, first(vehicles, speed)))
 }
 
-fn in_calls(preemption: u16) -> Number
-    ensures { λ r. ⌜ r ≡ inCalls preemption ⌝ }
+fn in_calls(calls: Calls) -> Number
+    ensures { λ r. ⌜ r ≡ inCalls calls ⌝ }
 {
-    number_of(Part::TheCalls, 0, preemption, FLAGS)
+    let preemption = number_of(Part::TheCalls, 0, calls.preemption, FLAGS);
+    let bypass = number_of(Part::TheCalls, 1, calls.bypass, FLAGS);
+    first(preemption, bypass)
 }
 
 // An entry's mode of a command's kind.
@@ -192,12 +195,13 @@ pub fn first_bad(shape: Shape, input: Input) -> Number
     ensures { λ r. ⌜ r ≡ firstBad shape input ⌝ }
 {
     let clock = input.clock;
+    let calls = input.calls;
     let manual = input.manual;
     let centre = input.centre;
     let commands = first(
         in_command(Part::Manual, manual),
         in_command(Part::Communications, centre),
     );
-    let calls = first(in_calls(input.preemption), commands);
-    first(in_clock(clock), in_lanes(shape, input, calls))
+    let behind = first(in_calls(calls), commands);
+    first(in_clock(clock), in_lanes(shape, input, behind))
 }

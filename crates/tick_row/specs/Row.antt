@@ -1,6 +1,6 @@
 -- A tick as one row of numbers, in the order of document 02's tick record: year, month, day and the two halves of the tenth; demand and
--- passage of each metered lane; working, occupied, vehicles and speed of each mainline lane; preemption; kind, rate and table of the manual
--- and then of the communications command. Replay's line and the test cases are read by this.
+-- passage of each metered lane; working, occupied, vehicles and speed of each mainline lane; preemption and bypass; kind, rate and table of
+-- the manual and then of the communications command. Replay's line and the test cases are read by this.
 use Prim.Native.Nat.{ℕ, _+_, _*_}
 use mathlib.Core.Bool.{cond}
 use mathlib.Core.List.{List, [], _∷_}
@@ -9,6 +9,7 @@ use lib.ListN.{getD}
 use Rattle.calendar.specs.declared.clock.Clock.{Clock}
 use Rattle.inputs.specs.declared.Metered.{Metered}
 use Rattle.inputs.specs.declared.Mainline.{Mainline}
+use Rattle.inputs.specs.declared.Calls.{Calls}
 use Rattle.inputs.specs.declared.Command.{Command}
 use Rattle.tick.specs.declared.Input.{Input}
 
@@ -49,6 +50,10 @@ mainlineOf row m p = record {
   speed = ofMainline row m (p + 3);
 }
 
+-- "Preemption and bypass", from this place on.
+unfoldable pub callsOf : List ℕ → ℕ → Calls
+callsOf row p = record { preemption = getD row p 0; bypass = getD row (p + 1) 0 }
+
 -- "Kind, rate and table", from this place on.
 unfoldable pub commandOf : List ℕ → ℕ → Command
 commandOf row p = record { kind = getD row p 0; rate = getD row (p + 1) 0; table = getD row (p + 2) 0 }
@@ -62,14 +67,14 @@ unfoldable pub callsAt : ℕ → ℕ → ℕ
 callsAt n m = mainlineAt n + 4 * m
 
 unfoldable pub commandsAt : ℕ → ℕ → ℕ
-commandsAt n m = callsAt n m + 1
+commandsAt n m = callsAt n m + 2
 
 unfoldable pub rowSize : ℕ → ℕ → ℕ
 rowSize n m = commandsAt n m + 6
 
 -- The longest row, that of four metered and six mainline lanes: law `longest-row`.
 abbrev pub longestRow : ℕ
-longestRow = 44
+longestRow = 45
 
 -- The tick of a row; "manual first".
 unfoldable pub inputOf : List ℕ → ℕ → ℕ → Input
@@ -77,7 +82,7 @@ inputOf row n m = record {
   clock = clockOf row;
   lanes = meteredOf row n;
   main = mainlineOf row m (mainlineAt n);
-  preemption = getD row (callsAt n m) 0;
+  calls = callsOf row (callsAt n m);
   manual = commandOf row (commandsAt n m);
   centre = commandOf row (commandsAt n m + 3);
 }

@@ -1,16 +1,17 @@
 // A tick as one row of numbers: clock, metered lanes, mainline lanes, calls, commands.
 ghost use mathlib.Core.Path.{_≡_};
 ghost use Prim.Native.Nat.{_≤_};
-ghost use Rattle.tick_row.specs.Row.{longOf, clockOf, ofLane, ofMetered, meteredOf, ofMainline, mainlineOf, commandOf, mainlineAt, callsAt, commandsAt, inputOf, rowSize};
+ghost use Rattle.tick_row.specs.Row.{longOf, clockOf, ofLane, ofMetered, meteredOf, ofMainline, mainlineOf, callsOf, commandOf, mainlineAt, callsAt, commandsAt, inputOf, rowSize};
 use calendar::Clock;
 use calendar::Date;
+use inputs::Calls;
 use inputs::Command;
 use inputs::Mainline;
 use inputs::Metered;
 use tick::Input;
 
 // The most numbers that a row has: those of four metered and six mainline lanes.
-pub const LONGEST_ROW: usize = 44;
+pub const LONGEST_ROW: usize = 45;
 
 // Where the metered lanes' numbers begin, behind the clock's.
 const METERED: usize = 5;
@@ -20,7 +21,7 @@ const METERED_WIDTH: usize = 2;
 
 const MAINLINE_WIDTH: usize = 4;
 
-const CALLS_WIDTH: usize = 1;
+const CALLS_WIDTH: usize = 2;
 
 const COMMAND_WIDTH: usize = 3;
 
@@ -131,6 +132,16 @@ fn mainline_of(row: &[u16], m: u16, p: usize) -> Mainline
     }
 }
 
+fn calls_of(row: &[u16], p: usize) -> Calls
+    requires { ⌜ p ≤ 1000000 ⌝ }
+    ensures { λ r. ⌜ r ≡ callsOf (now (row .entry)) p ⌝ }
+{
+    Calls {
+        preemption: numbers::number_at(row, p),
+        bypass: numbers::number_at(row, p + 1),
+    }
+}
+
 fn command_of(row: &[u16], p: usize) -> Command
     requires { ⌜ p ≤ 1000000 ⌝ }
     ensures { λ r. ⌜ r ≡ commandOf (now (row .entry)) p ⌝ }
@@ -153,7 +164,7 @@ pub fn input_of(row: &[u16], n: u16, m: u16) -> Input
         clock: clock_of(row),
         lanes: metered_of(row, n),
         main: mainline_of(row, m, main),
-        preemption: numbers::number_at(row, calls),
+        calls: calls_of(row, calls),
         manual: command_of(row, commands),
         centre: command_of(row, commands + COMMAND_WIDTH),
     }

@@ -17,9 +17,11 @@ use Rattle.wanted.specs.declared.wish.Source.{Source}
 use Rattle.wanted.specs.declared.wish.Source.the-variants.{Manual, Centre, Plan}
 use Rattle.wanted.specs.Wish.{rateOf}
 use Rattle.wanted.proofs.wish.Wish as a-wish
+use Rattle.bypass.specs.declared.Doing.{Doing}
+use Rattle.bypass.specs.declared.Doing.the-variants.{None, Waits, Runs}
 use Rattle.tick.specs.declared.Ticked.{Ticked}
 use Rattle.tick_text.specs.Lamps.{lampsText}
-use Rattle.tick_text.specs.Decided.{sourceText, wishText, rulingText, wishedText, decisionText, acceptedText, decidedText}
+use Rattle.tick_text.specs.Decided.{sourceText, wishText, rulingText, wishedText, decisionText, bypassText, acceptedText, decidedText}
 use Rattle.tick_text.specs.Lines.{intervalText, tickLine, longestTick}
 
 -- A wish that the machine holds has a rate that it holds.
@@ -53,6 +55,11 @@ wish-most Green = omega arith
 wish-most (Metering rate) = omega arith
 wish-most Clear = omega arith
 
+bypass-most : (d : Doing) → length (bypassText d) ≤ 6
+bypass-most None = omega arith
+bypass-most Waits = omega arith
+bypass-most Runs = omega arith
+
 lamps-most : (s : Indications) (n : ℕ) → s .sign < 2 ^ 64 → length (lampsText s n) ≤ 31
 unfolding lampsText
 lamps-most s n h = let a = decimal-word (s .sign) h in simp (length-append, length-take) (omega arith)
@@ -82,16 +89,17 @@ module _ (k : ℕ) (t : Ticked) (z : Sized k t) where
       let c = decimal-word (rateOf (t .decision .wish)) (z .rate) in
       simp length-append (omega arith)
 
-  accepted-most : length (acceptedText (t .decision) (t .cycle) (t .released)) ≤ 122
+  accepted-most : length (acceptedText t) ≤ 128
   unfolding acceptedText decisionText
   accepted-most =
       let a = ruling-most in
       let b = wished-most in
       let c = decimal-word (t .cycle) (z .cycle) in
       let d = decimal-word (t .released) (z .released) in
+      let e = bypass-most (t .bypass) in
       simp length-append (omega arith)
 
-  decided-case : (b : Bool) → eqb (t .refusal) 0 ≡ b → length (decidedText t) ≤ 122
+  decided-case : (b : Bool) → eqb (t .refusal) 0 ≡ b → length (decidedText t) ≤ 128
   unfolding decidedText
   decided-case true e = rw e accepted-most
   decided-case false e = rw e (omega arith)

@@ -11,6 +11,8 @@ use Rattle.wanted.specs.declared.wish.Source.{Source}
 use Rattle.wanted.specs.declared.wish.Source.the-variants.{Manual, Centre, Plan}
 use Rattle.wanted.specs.declared.Decision.{Decision}
 use Rattle.wanted.specs.Wish.{rateOf}
+use Rattle.bypass.specs.declared.Doing.{Doing}
+use Rattle.bypass.specs.declared.Doing.the-variants.{None, Waits, Runs}
 use Rattle.tick.specs.declared.Ticked.{Ticked}
 
 -- The source that rules (`manual`, `centre`, or `plan`).
@@ -37,10 +39,16 @@ wishedText d = blankAndDecimal (d .level) ++ (wishText (d .wish) ++ blankAndDeci
 unfoldable pub decisionText : Decision → List ℕ
 decisionText d = rulingText d ++ wishedText d
 
--- Of an accepted tick these, the cycle or 0, the lane released or 0.
-unfoldable pub acceptedText : Decision → ℕ → ℕ → List ℕ
-acceptedText d cycle released = decisionText d ++ (blankAndDecimal cycle ++ blankAndDecimal released)
+-- What the bus bypass does (`none`, `waits`, `runs`).
+abbrev pub bypassText : Doing → List ℕ
+bypassText None = ascii " none"
+bypassText Waits = ascii " waits"
+bypassText Runs = ascii " runs"
 
--- Of a refused one eight times `-`.
+-- Of an accepted tick what was decided, the cycle or 0, the lane released or 0, what the bus bypass does.
+unfoldable pub acceptedText : Ticked → List ℕ
+acceptedText t = decisionText (t .decision) ++ (blankAndDecimal (t .cycle) ++ (blankAndDecimal (t .released) ++ bypassText (t .bypass)))
+
+-- Of a refused one nine times `-`.
 unfoldable pub decidedText : Ticked → List ℕ
-decidedText t = cond (eqb (t .refusal) 0) (acceptedText (t .decision) (t .cycle) (t .released)) (ascii " - - - - - - - -")
+decidedText t = cond (eqb (t .refusal) 0) (acceptedText t) (ascii " - - - - - - - - -")

@@ -6,13 +6,12 @@ use lib.Dec.{ltb}
 use Rattle.text.specs.Ascii.{ascii}
 use Rattle.text.specs.Decimal.{decimal}
 use Rattle.phrases.specs.Phrases.{blankAndDecimal}
-use Rattle.state.specs.declared.State.{State}
 use Rattle.tick.specs.declared.Ticked.{Ticked}
 use Rattle.tick_text.specs.Lamps.{lampsText}
 use Rattle.tick_text.specs.Decided.{decidedText}
 
 unfoldable pub headingLine : List ℕ
-headingLine = ascii "tick refusal interval age lanes lower sign day entry source level wish rate cycle released\n"
+headingLine = ascii "tick refusal interval age lanes lower sign day entry source level wish rate cycle released bypass\n"
 
 -- The refusal, 0 when accepted; the interval and its age after the tick.
 unfoldable pub intervalText : Ticked → List ℕ
@@ -24,7 +23,7 @@ tickLine number n t = decimal number ++ (intervalText t ++ (lampsText (t .shown)
 
 -- No tick's line is longer.
 abbrev pub longestTick : ℕ
-longestTick = 240
+longestTick = 250
 
 -- In lowercase hexadecimal: 0 to 9, then a to f.
 unfoldable pub hexDigit : ℕ → ℕ

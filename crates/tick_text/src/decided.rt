@@ -1,6 +1,7 @@
 // What was decided, in a tick's line.
 ghost use Rattle.text.specs.Put.{Put};
-ghost use Rattle.tick_text.specs.Decided.{sourceText, wishText, rulingText, wishedText, decisionText, acceptedText, decidedText};
+ghost use Rattle.tick_text.specs.Decided.{sourceText, wishText, rulingText, wishedText, decisionText, bypassText, acceptedText, decidedText};
+use bypass::Doing;
 use tick::Ticked;
 use wanted::Decision;
 use wanted::Source;
@@ -56,21 +57,34 @@ pub fn put_decision(out: &mut [u8], at: usize, d: Decision) -> usize
     put_wished(out, p, d)
 }
 
-// What is said of an accepted tick.
-fn put_accepted(out: &mut [u8], at: usize, d: Decision, cycle: u16, released: u16) -> usize
-    ensures { λ r. ⌜ Put (now (out .entry)) at (acceptedText d cycle released) r (now (out .exit)) ⌝ }
+// What the bus bypass does.
+pub fn put_bypass(out: &mut [u8], at: usize, doing: Doing) -> usize
+    ensures { λ r. ⌜ Put (now (out .entry)) at (bypassText doing) r (now (out .exit)) ⌝ }
 {
-    let p = put_decision(out, at, d);
-    let q = phrases::put_blank_and_decimal(out, p, cycle as u64);
-    phrases::put_blank_and_decimal(out, q, released as u64)
+    match doing {
+        Doing::None => text::put_bytes(out, at, b" none"),
+        Doing::Waits => text::put_bytes(out, at, b" waits"),
+        Doing::Runs => text::put_bytes(out, at, b" runs"),
+    }
+}
+
+// What is said of an accepted tick.
+fn put_accepted(out: &mut [u8], at: usize, t: Ticked) -> usize
+    ensures { λ r. ⌜ Put (now (out .entry)) at (acceptedText t) r (now (out .exit)) ⌝ }
+{
+    let decision = t.decision;
+    let p = put_decision(out, at, decision);
+    let q = phrases::put_blank_and_decimal(out, p, t.cycle as u64);
+    let r = phrases::put_blank_and_decimal(out, q, t.released as u64);
+    let doing = t.bypass;
+    put_bypass(out, r, doing)
 }
 
 pub fn put_decided(out: &mut [u8], at: usize, t: Ticked) -> usize
     ensures { λ r. ⌜ Put (now (out .entry)) at (decidedText t) r (now (out .exit)) ⌝ }
 {
     if t.refusal != 0 {
-        return text::put_bytes(out, at, b" - - - - - - - -");
+        return text::put_bytes(out, at, b" - - - - - - - - -");
     }
-    let decision = t.decision;
-    put_accepted(out, at, decision, t.cycle, t.released)
+    put_accepted(out, at, t)
 }

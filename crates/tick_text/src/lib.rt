@@ -2,6 +2,7 @@
 mod decided;
 mod lamps;
 
+pub use decided::put_bypass;
 pub use decided::put_decision;
 pub use lamps::put_lamps;
 ghost use mathlib.Core.Path.{_≡_};
@@ -17,7 +18,7 @@ pub fn put_heading(out: &mut [u8], at: usize) -> usize
     text::put_bytes(
         out,
         at,
-        b"tick refusal interval age lanes lower sign day entry source level wish rate cycle released\n",
+        b"tick refusal interval age lanes lower sign day entry source level wish rate cycle released bypass\n",
     )
 }
 

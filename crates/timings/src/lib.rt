@@ -23,10 +23,16 @@ pub struct Timings {
     pub minpregreen: u16,
     // how many mainline lanes
     pub mainline: u16,
+    // the lane of the bus bypass, from 1; 0 for none
+    pub priority: u16,
+    // after how many seconds a bypass ends; 0 for never
+    pub timeout: u16,
 }
 
-// What a state must fit: how many metered and mainline lanes there are.
+// What a state must fit: how many metered and mainline lanes there are, and the lane of the bus
+// bypass, 0 for none.
 pub struct Shape {
     pub lanes: u16,
     pub mainline: u16,
+    pub priority: u16,
 }

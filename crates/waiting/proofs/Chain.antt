@@ -11,10 +11,12 @@ use lib.ListN.{getD}
 use Rattle.loops.specs.Any.{anyFrom}
 use Rattle.loops.proofs.AnyLaws.{none-of}
 use Rattle.inputs.specs.declared.Metered.{Metered}
+use Rattle.inputs.specs.declared.Calls.{Calls}
 use Rattle.wanted.specs.declared.wish.Wish.{Wish}
 use Rattle.timings.specs.declared.Timings.{Timings}
 use Rattle.lanes.specs.declared.Lane.{Lane}
 use Rattle.lanes.specs.declared.Lanes.{Lanes}
+use Rattle.lanes.specs.declared.Endings.{Endings}
 use Rattle.lanes.specs.Intervals.{riseOf}
 use Rattle.lanes.specs.Lanes.{laneOf, lanesTick, lanesEntered}
 use Rattle.loops.proofs.Cases.{by-test}
@@ -22,7 +24,9 @@ use Rattle.lanes.proofs.LaneLaws.{tick-counter, lane-in, offset-ticked, last-ti
 use Rattle.release.specs.Release.{anyGreen, mayRelease, releasedOf, releaseOf}
 use Rattle.release.proofs.ReleaseLaws.{none-released, lane-goes, lane-stays, last-released, offset-released, released-in, may-release}
 use Rattle.group.specs.declared.Group.{Group}
-use Rattle.group.specs.Group.{lanesMoved, releasedIn, groupOf, movedWith, movedOf}
+use Rattle.bypass.specs.Lanes.{releasedFor}
+use Rattle.bypass.proofs.BypassLaws.{due, released-for, released-most}
+use Rattle.group.specs.Group.{intervalOf, lanesIn, lanesMoved, releasedIn, groupOf, movedWith, movedOf}
 use Rattle.group.proofs.IntervalLaws.{lanes-cases}
 use Rattle.group.proofs.RangeLaws.{LanesGood, GroupGood}
 use Rattle.waiting.proofs.LaneRank.{Sound, was-green}
@@ -39,20 +43,20 @@ pub record Chain (t : Timings) (s : Lanes) : Type 0 where
   pub newest : laneOf s (s .last - 1) .counter ≡ s .offset
 
 module _ (t : Timings) (ok : Sound t) where
-  pub chain-tick : (own : Bool) (s : Lanes) (passage : List ℕ) → LanesGood own s (t .lanes) → Chain t s → Chain t (lanesTick t s passage)
-  chain-tick own s passage v w =
+  pub chain-tick : (own : Bool) (endings : Endings) (s : Lanes) (passage : List ℕ) → LanesGood own s (t .lanes) → Chain t s → Chain t (lanesTick t endings s passage)
+  chain-tick own endings s passage v w =
       let i = s .last - 1 in
-      let at = lane-in t s passage i (omega (arith, v .least, v .most, ok .most)) (omega (arith, v .least, v .most)) in
+      let at = lane-in t endings s passage i (omega (arith, v .least, v .most, ok .most)) (omega (arith, v .least, v .most)) in
       record {
         one-green = λ m i h k e.
-            w .one-green m i h k (was-green t ok (laneOf s i) (getD passage i 0) (rw (lane-in t s passage i h k) at e))
-            ∙ sym (last-ticked t s passage);
+            w .one-green m i h k (was-green t ok _ (laneOf s i) (getD passage i 0) (rw (lane-in t endings s passage i h k) at e))
+            ∙ sym (last-ticked t endings s passage);
         newest =
-            ap (counterOf (lanesTick t s passage)) (last-ticked t s passage)
+            ap (counterOf (lanesTick t endings s passage)) (last-ticked t endings s passage)
             ∙ ap counter at
-            ∙ tick-counter t (laneOf s i) (getD passage i 0)
+            ∙ tick-counter t _ (laneOf s i) (getD passage i 0)
             ∙ ap riseOf (w .newest)
-            ∙ sym (offset-ticked t s passage);
+            ∙ sym (offset-ticked t endings s passage);
       }
 
   pub chain-enter : Chain t (lanesEntered (t .lanes))
@@ -73,13 +77,16 @@ module _ (t : Timings) (ok : Sound t) where
       let none = not-true (anyFrom (λ i. eqb (laneOf s i .colour) 3) 0 (t .lanes)) (rw m at e) in
       true≢false (sym (eq-eqb (laneOf s i .colour) 3 c) ∙ none-of (λ i. eqb (laneOf s i .colour) 3) 0 (t .lanes) none i (omega arith) (omega arith))
 
-  pub chain-release : (s : Lanes) (k cycle : ℕ) → k ≤ t .lanes → (eqb k 0 ≡ false → mayRelease t cycle s ≡ true) → Chain t s → Chain t (releaseOf s k)
-  chain-release s k cycle h may w =
+  -- A release that finds no other lane green keeps it:
+  pub chain-release : (s : Lanes) (k : ℕ) → k ≤ t .lanes
+      → (eqb k 0 ≡ false → eqb (t .mode) 1 ≡ false → (i : ℕ) → i < t .lanes → eqb k (i + 1) ≡ false → laneOf s i .colour ≡ 3 → ⊥)
+      → Chain t s → Chain t (releaseOf s k)
+  chain-release s k h no-other w =
       by-test (eqb k 0) (λ e. rw (none-released s k e) w)
       (λ e. record {
         one-green = λ m i l j c. by-test (eqb k (i + 1))
             (λ f. sym (eqb-true k (i + 1) f) ∙ sym (last-released s k e))
-            (λ f. absurd (none-green s cycle m (may e) i j (rw (lane-stays s k i l f) at c)));
+            (λ f. absurd (no-other e m i j f (rw (lane-stays s k i l f) at c)));
         newest = let below : k - 1 < 4 = omega (arith, ok .most, eqb-false k 0 e) in
             let back : k ≡ k - 1 + 1 = omega (arith, eqb-false k 0 e) in
             ap (counterOf (releaseOf s k)) (last-released s k e)
@@ -87,23 +94,33 @@ module _ (t : Timings) (ok : Sound t) where
             ∙ sym (offset-released s k e);
       })
 
-  chain-released : (s : Lanes) (now cycle : ℕ) (demand : List ℕ) → Chain t s → Chain t (releaseOf s (releasedIn t cycle demand now s))
+  -- The ordinary release,
+  pub chain-searched : (s : Lanes) (cycle : ℕ) (demand : List ℕ) → Chain t s → Chain t (releaseOf s (releasedOf t cycle demand s))
+  chain-searched s cycle demand w =
+      chain-release s _ (released-in t cycle demand s (ok .least)) (λ e m i h _ c. none-green s cycle m (may-release t cycle demand s e) i h c) w
+
+  -- and that of a bypass, which finds all others red.
+  chain-due : t .priority ≤ t .lanes → (s : Lanes) → Chain t s → Chain t (releaseOf s (releasedFor t s))
+  chain-due hp s w =
+      chain-release s _ (omega (arith, released-most t s, hp))
+      (λ e m i h f c. let red = due t s e .others i h (λ z. eqb-false (releasedFor t s) (i + 1) f (released-for t s e ∙ sym z)) in omega (arith, red, c)) w
+
+  chain-released : t .priority ≤ t .lanes → (kept : Bool) (s : Lanes) (now cycle : ℕ) (demand : List ℕ) → Chain t s → Chain t (releaseOf s (releasedIn t kept cycle demand now s))
   unfolding releasedIn
-  chain-released s now cycle demand w =
-      by-test (eqb now 7)
-      (λ e. rw e (chain-release s (releasedOf t cycle demand s) cycle (released-in t cycle demand s (ok .least)) (may-release t cycle demand s) w))
-      (λ e. rw (e, none-released s 0 refl) w)
+  chain-released hp true s now cycle demand w = chain-due hp s w
+  chain-released hp false s now cycle demand w =
+      by-test (eqb now 7) (λ e. rw e (chain-searched s cycle demand w)) (λ e. rw (e, none-released s 0 refl) w)
 
   -- A tick of the group keeps it.
-  module _ (preemption : ℕ) (wish : Wish) (cycle : ℕ) (samples : Metered) (g : Group) (v : GroupGood g (t .lanes)) (w : Chain t (g .lanes)) where
-    pub chain-lanes : Chain t (lanesMoved t preemption wish samples g)
-    chain-lanes =
-        lanes-cases t preemption wish samples g (v .interval) (λ _ s. Chain t s)
-        (λ _ _. chain-tick _ (g .lanes) (samples .passage) (v .lanes) w)
+  module _ (hp : t .priority ≤ t .lanes) (calls : Calls) (wish : Wish) (cycle : ℕ) (samples : Metered) (g : Group) (v : GroupGood g (t .lanes) (t .priority)) (w : Chain t (g .lanes)) where
+    chain-lanes : (endings : Endings) → Chain t (lanesIn t endings (samples .passage) (g .interval) (intervalOf t (calls .preemption) wish g) (g .lanes))
+    chain-lanes endings =
+        lanes-cases t (calls .preemption) wish endings (samples .passage) g (v .interval) (λ _ s. Chain t s)
+        (λ _ _. chain-tick _ endings (g .lanes) (samples .passage) (v .lanes) w)
         (λ _. chain-enter)
-        (λ _. chain-tick _ (g .lanes) (samples .passage) (v .lanes) w)
+        (λ _. chain-tick _ endings (g .lanes) (samples .passage) (v .lanes) w)
         (λ _ _ _ _. w)
 
-    pub chain-moved : Chain t (movedOf t preemption wish cycle samples g .group .lanes)
-    unfolding movedOf movedWith groupOf
-    chain-moved = chain-released _ _ cycle (samples .demand) chain-lanes
+    pub chain-moved : Chain t (movedOf t calls wish cycle samples g .group .lanes)
+    unfolding movedOf movedWith groupOf lanesMoved
+    chain-moved = chain-released hp _ _ _ cycle (samples .demand) (chain-lanes _)

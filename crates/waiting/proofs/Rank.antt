@@ -1,7 +1,7 @@
 -- How long a waiting lane is passed over at the most: a number that falls at each tick in metering that does not release it.
 use Prim.Native.Nat.{ℕ, _+_, _-_, _*_, _≤_, _<_, max}
 use mathlib.Core.Path.{_≡_, sym, _∙_, ap, subst}
-use mathlib.Core.Bool.{Bool, true, false, cond, not, true≢false}
+use mathlib.Core.Bool.{Bool, true, false, cond, true≢false}
 use mathlib.Core.List.{List}
 use native.Mathlib.Omega.{arith}
 use native.Mathlib.Nat.{add-mul, one-mul, mul-one, mul-le-mul-left, mul-le-mul-right}
@@ -11,19 +11,20 @@ use lib.ListN.{getD}
 use Rattle.loops.proofs.AnyLaws.{any-of-none}
 use Rattle.timings.specs.declared.Timings.{Timings}
 use Rattle.lanes.specs.declared.Lanes.{Lanes}
-use Rattle.lanes.specs.Intervals.{lane, riseOf, laneTick}
-use Rattle.lanes.specs.Lanes.{laneOf, lanesTick}
+use Rattle.lanes.specs.declared.Endings.{Endings}
+use Rattle.lanes.specs.Intervals.{riseOf, laneTick}
+use Rattle.lanes.specs.Lanes.{laneOf, endingOf, lanesTick}
 use Rattle.loops.proofs.Cases.{by-test}
-use Rattle.lanes.proofs.LaneLaws.{rise-min, lane-in, offset-ticked, last-ticked}
+use Rattle.lanes.proofs.LaneLaws.{Within, rise-min, lane-in, offset-ticked, last-ticked}
 use Rattle.release.specs.Cycle.{roundedUp, offsetTicks}
 use Rattle.release.specs.Release.{anyGreen, mayRelease, readyAt, releasedOf, releaseOf}
 use Rattle.turns.proofs.TurnLaws.{turns, turns-in, turns-most, Nearer, first-nearer}
 use Rattle.release.proofs.CycleLaws.{up-most, up-least, up-grows}
-use Rattle.release.proofs.ReleaseLaws.{none-released, lane-stays, last-released, released-in, may-release, is-ready}
+use Rattle.release.proofs.ReleaseLaws.{none-released, lane-stays, last-released, released-in, is-ready}
 use Rattle.group.proofs.RangeLaws.{LanesGood, lanes-keep, lanes-release}
 use Rattle.waiting.specs.Bound.{turnTicks, waitingBound}
 use Rattle.waiting.proofs.LaneRank.{Sound, readyIn, greenFor, ready-falls, green-falls, due, due-parts, due-not-green, ready-in-most, green-most}
-use Rattle.waiting.proofs.Chain.{Chain, chain-tick, chain-release}
+use Rattle.waiting.proofs.Chain.{Chain, chain-tick, chain-searched}
 
 -- Ticks, the present one not included, until a release is possible at all.
 unfoldable pub gapOf : Timings → ℕ → Lanes → ℕ
@@ -91,10 +92,21 @@ module _ (t : Timings) (ok : Sound t) (c : ℕ) where
       (λ e. rw e (omega (arith, whole, ok .some-green, due-most own s j v w h (leb-true (readyIn t c (laneOf s j)) 1 e))))
       (λ e. rw e (omega (arith, whole, leb-false (readyIn t c (laneOf s j)) 1 e, ready-in-most t ok c (laneOf s j))))
 
--- A tick in metering.
-module _ (t : Timings) (ok : Sound t) (c : ℕ) (hc : c ≤ 720) (s : Lanes) (passage : List ℕ) (v : LanesGood true s (t .lanes)) (w : Chain t s) where
+  -- Where the lane will be ready in less than a whole green, yellow and red or the cycle, it is below that by more than one.
+  pub rank-anew : (own : Bool) (s : Lanes) (j : ℕ) → LanesGood own s (t .lanes) → Chain t s → j < t .lanes
+      → readyIn t c (laneOf s j) ≤ max c (t .maxgreen + t .yellow + t .minred) - 1 → lanesRank t c j s < waitingBound t c - 1
+  unfolding lanesRank
+  rank-anew own s j v w h soon =
+      let whole = bound-least t c in
+      by-test (leb (readyIn t c (laneOf s j)) 1)
+      (λ e. rw e (omega (arith, whole, ok .some-green, ok .some-yellow, due-most own s j v w h (leb-true (readyIn t c (laneOf s j)) 1 e))))
+      (λ e. rw e (omega (arith, whole, leb-false (readyIn t c (laneOf s j)) 1 e, soon)))
+
+-- A tick in metering by which no green reaches the maximum.
+module _ (t : Timings) (ok : Sound t) (c : ℕ) (hc : c ≤ 720) (endings : Endings) (within : (k : ℕ) → Within t (t .maxgreen) (endingOf endings k))
+    (s : Lanes) (passage : List ℕ) (v : LanesGood true s (t .lanes)) (w : Chain t s) where
   abbrev s′ : Lanes
-  s′ = lanesTick t s passage
+  s′ = lanesTick t endings s passage
 
   last-place : (s .last - 1 < 4) × (s .last - 1 < t .lanes)
   last-place = (omega (arith, v .least, v .most, ok .most), omega (arith, v .least, v .most))
@@ -107,13 +119,13 @@ module _ (t : Timings) (ok : Sound t) (c : ℕ) (hc : c ≤ 720) (s : Lanes) (pa
       (λ f. absurd (true≢false (sym e ∙ any-of-none (λ i. eqb (laneOf s′ i .colour) 3) 0 (t .lanes) (λ i l h. other f i (omega arith)))))
     where
       after : Chain t s′
-      after = chain-tick t ok true s passage v w
+      after = chain-tick t ok true endings s passage v w
 
       other : eqb (laneOf s′ (s .last - 1) .colour) 3 ≡ false → (i : ℕ) → i < t .lanes → eqb (laneOf s′ i .colour) 3 ≡ false
       other f i h =
           by-test (eqb (laneOf s′ i .colour) 3)
           (λ g. let q = after .one-green m i (omega (arith, ok .most)) h (eqb-true (laneOf s′ i .colour) 3 g) in
-          let place : s .last - 1 ≡ i = omega (arith, q, last-ticked t s passage) in
+          let place : s .last - 1 ≡ i = omega (arith, q, last-ticked t endings s passage) in
           absurd (true≢false (sym g ∙ subst (λ (k : ℕ). eqb (laneOf s′ k .colour) 3 ≡ false) place f)))
           (λ g. g)
 
@@ -129,7 +141,7 @@ module _ (t : Timings) (ok : Sound t) (c : ℕ) (hc : c ≤ 720) (s : Lanes) (pa
       offset-falls p =
           let grows = up-grows (t .lanes) (ok .least) cycle c h in
           let most = up-most (t .lanes) (ok .least) c c (omega (arith, mul-one c, mul-le-mul-left c (ok .least))) in
-          let now : s′ .offset ≡ s .offset + 1 = risen (offset-ticked t s passage) (omega (arith, grows, most)) in
+          let now : s′ .offset ≡ s .offset + 1 = risen (offset-ticked t endings s passage) (omega (arith, grows, most)) in
           fall (roundedUp c (t .lanes)) (s .offset) (s′ .offset) now (omega (arith, grows))
         where
           risen : s′ .offset ≡ riseOf (s .offset) → s′ .offset < 720 → s′ .offset ≡ s .offset + 1
@@ -140,11 +152,11 @@ module _ (t : Timings) (ok : Sound t) (c : ℕ) (hc : c ≤ 720) (s : Lanes) (pa
 
       green-shorter : laneOf s′ (s .last - 1) .colour ≡ 3 → greenFor t (laneOf s′ (s′ .last - 1)) < greenFor t (laneOf s (s .last - 1))
       green-shorter g =
-          let here = lane-in t s passage (s .last - 1) (last-place .0) (last-place .1) in
+          let here = lane-in t endings s passage (s .last - 1) (last-place .0) (last-place .1) in
           let l = laneOf s (s .last - 1) in
-          let same : s′ .last - 1 ≡ s .last - 1 = ap (λ k. k - 1) (last-ticked t s passage) in
+          let same : s′ .last - 1 ≡ s .last - 1 = ap (λ k. k - 1) (last-ticked t endings s passage) in
           subst (λ (x : ℕ). x < greenFor t l) (sym (ap (λ k. greenFor t (laneOf s′ k)) same ∙ ap (greenFor t) here))
-          (green-falls t ok l (getD passage (s .last - 1) 0) (sym (ap (λ m. m .colour) here) ∙ g))
+          (green-falls t ok _ l (getD passage (s .last - 1) 0) (within _) (sym (ap (λ m. m .colour) here) ∙ g))
 
   module _ (cycle : ℕ) (some-cycle : 1 ≤ cycle) (hcycle : cycle ≤ c) (demand : List ℕ) (j : ℕ) (hj : j < t .lanes) where
     abbrev k : ℕ
@@ -154,16 +166,16 @@ module _ (t : Timings) (ok : Sound t) (c : ℕ) (hc : c ≤ 720) (s : Lanes) (pa
     after = releaseOf s′ k
 
     good-ticked : LanesGood true s′ (t .lanes)
-    good-ticked = lanes-keep t s passage v
+    good-ticked = lanes-keep t endings s passage v
 
     chain-ticked : Chain t s′
-    chain-ticked = chain-tick t ok true s passage v w
+    chain-ticked = chain-tick t ok true endings s passage v w
 
     good-after : LanesGood true after (t .lanes)
     good-after = lanes-release s′ (t .lanes) k (released-in t cycle demand s′ (ok .least)) good-ticked
 
     chain-after : Chain t after
-    chain-after = chain-release t ok s′ k cycle (released-in t cycle demand s′ (ok .least)) (may-release t cycle demand s′) chain-ticked
+    chain-after = chain-searched t ok s′ cycle demand chain-ticked
 
     abbrev place : j < 4
     place = omega (arith, ok .most)
@@ -171,23 +183,23 @@ module _ (t : Timings) (ok : Sound t) (c : ℕ) (hc : c ≤ 720) (s : Lanes) (pa
     turn-some : 1 ≤ turnTicks t c
     unfolding turnTicks
     turn-some =
-        by-test (eqb (t .mode) 1) (λ m. rw m (up-least (t .lanes) (ok .least) c (omega arith))) (λ m. rw m (ok .some-green))
+        by-test (eqb (t .mode) 1) (λ m. rw m (up-least (t .lanes) (ok .least) c (omega arith))) (λ m. rw m (omega (arith, ok .some-green)))
 
     -- The lane, unless it is released, is one tick on.
-    lane-after : eqb k (j + 1) ≡ false → laneOf after j ≡ laneTick t (laneOf s j) (getD passage j 0)
-    lane-after miss = lane-stays s′ k j place miss ∙ lane-in t s passage j place hj
+    lane-after : eqb k (j + 1) ≡ false → laneOf after j ≡ laneTick t (endingOf endings (j + 1)) (laneOf s j) (getD passage j 0)
+    lane-after miss = lane-stays s′ k j place miss ∙ lane-in t endings s passage j place hj
 
     nearer-due : eqb k (j + 1) ≡ false → readyIn t c (laneOf after j) ≤ max 1 (readyIn t c (laneOf s j) - 1)
-    nearer-due miss = rw (lane-after miss) (ready-falls t ok (laneOf s j) (getD passage j 0) c hc)
+    nearer-due miss = rw (lane-after miss) (ready-falls t ok _ (laneOf s j) (getD passage j 0) (within (j + 1)) c hc)
 
     -- Being due, and in demand, it is ready.
     ready-now : getD demand j 0 ≡ 1 → readyIn t c (laneOf s j) ≤ 1 → readyAt t cycle demand s′ (j + 1) ≡ true
     unfolding readyAt
     ready-now d r =
         let back : j + 1 - 1 ≡ j = omega arith in
-        let p = due t ok (laneOf s j) (getD passage j 0) c hc (v .inside j place hj) r in
-        rw (back, lane-in t s passage j place hj)
-        (is-ready t cycle (getD demand j 0) (laneTick t (laneOf s j) (getD passage j 0))
+        let p = due t ok (endingOf endings (j + 1)) (laneOf s j) (getD passage j 0) c hc (v .inside j place hj) r in
+        rw (back, lane-in t endings s passage j place hj)
+        (is-ready t cycle (getD demand j 0) (laneTick t (endingOf endings (j + 1)) (laneOf s j) (getD passage j 0))
         (record { red = p .0; long = p .1 .0; wanted = d; cycled = omega (arith, p .1 .1) }))
 
     released-nearer : mayRelease t cycle s′ ≡ true → readyAt t cycle demand s′ (j + 1) ≡ true → Nearer (t .lanes) (s .last) (j + 1) k
@@ -198,7 +210,7 @@ module _ (t : Timings) (ok : Sound t) (c : ℕ) (hc : c ≤ 720) (s : Lanes) (pa
         rw may
         (first-nearer (readyAt t cycle demand s′) (t .lanes) (s′ .last) (j + 1) (t .lanes) (u .least) (u .most) (omega arith) (omega arith) r
         (turns-in (t .lanes) (s′ .last) (j + 1) (u .least) (u .most) (omega arith) (omega arith) .1)) in
-        subst (λ (a : ℕ). Nearer (t .lanes) a (j + 1) (releasedOf t cycle demand s′)) (last-ticked t s passage) found
+        subst (λ (a : ℕ). Nearer (t .lanes) a (j + 1) (releasedOf t cycle demand s′)) (last-ticked t endings s passage) found
 
     none-now : mayRelease t cycle s′ ≡ false → k ≡ 0
     unfolding releasedOf
@@ -219,7 +231,7 @@ module _ (t : Timings) (ok : Sound t) (c : ℕ) (hc : c ≤ 720) (s : Lanes) (pa
         (turn-nearer x (gapOf t c after) (gapOf t c s) (turns (t .lanes) k (j + 1)) (turns (t .lanes) (s .last) (j + 1)) turn-some
         (gap-most t ok c after) (inside .0) near))
         (λ may. let none : releaseOf s′ k ≡ s′ = none-released s′ k (eq-eqb k 0 (none-now may)) in
-        let here : turns (t .lanes) (s′ .last) (j + 1) ≡ turns (t .lanes) (s .last) (j + 1) = ap (λ a. turns (t .lanes) a (j + 1)) (last-ticked t s passage) in
+        let here : turns (t .lanes) (s′ .last) (j + 1) ≡ turns (t .lanes) (s .last) (j + 1) = ap (λ a. turns (t .lanes) a (j + 1)) (last-ticked t endings s passage) in
         rw (none, here) (omega (arith, gap-falls cycle hcycle may)))
       where
         turn-nearer : (x g h d e : ℕ) → 1 ≤ x → g ≤ x - 1 → 1 ≤ d → d < e → g + (d - 1) * x < h + (e - 1) * x

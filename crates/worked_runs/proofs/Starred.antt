@@ -1,4 +1,4 @@
--- The runs marked * of document 01, with document 02's cycles: all by computation.
+-- The runs marked * of document 01, with document 02's cycles and bytes: all by computation.
 use mathlib.Core.Path.{refl}
 use Rattle.worked_runs.specs.Starred.{Starred}
 use Rattle.worked_runs.proofs.Computing.{computing}
@@ -31,21 +31,4 @@ starred = record {
   lane-1-at-311 = refl;
   released = refl;
   released-with-offset = refl;
-  bound-at-60 = refl;
-  bound-with-offset = refl;
-  before-metering = refl;
-  begins-at-41 = refl;
-  not-at-40 = refl;
-  one-waiting = refl;
-  bound-of-one-lane = refl;
-  in-time = refl;
-  no-tick-to-spare = refl;
-  two-waiting = refl;
-  bound-of-two-lanes = refl;
-  two-in-time = refl;
-  two-no-tick-to-spare = refl;
-  two-waiting-with-offset = refl;
-  bound-of-two-with-offset = refl;
-  two-with-offset-in-time = refl;
-  two-with-offset-no-tick-to-spare = refl;
 }

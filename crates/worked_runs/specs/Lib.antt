@@ -2,6 +2,8 @@ pub mod SiteA
 pub mod Run
 pub mod TwoLanes
 pub mod Starred
+pub mod Waiting
 pub mod Preemption
 pub mod NearestCycle
 pub mod PastMidnight
+pub mod Bus

@@ -42,7 +42,7 @@ inputAt year month day tenth =
       clock = record { date = record { year = year; month = month; day = day }; tenth = tenth };
       lanes = quiet .lanes;
       main = quiet .main;
-      preemption = 0;
+      calls = quiet .calls;
       manual = quiet .centre;
       centre = quiet .centre;
     }

@@ -5,6 +5,7 @@ use mathlib.Core.Bool.{true, false}
 use mathlib.Core.List.{[], _∷_}
 use Rattle.site.specs.Named.{timingsOf}
 use Rattle.lanes.specs.Lanes.{lanesEntered}
+use Rattle.bypass.specs.Range.{noBypass}
 use Rattle.preemption.specs.Clearing.{clearingTicks}
 use Rattle.tick.specs.Course.{Course, atPowerUp, courseAfter}
 use Rattle.tick.specs.Preemption.{clearsWithin}
@@ -21,7 +22,7 @@ justReleased = courseAfter (atPowerUp slowSite) (calls slowSite metering600 102)
 
 -- A call that begins at the very next tick finds pre-metering dark or green at the last tick of the number, and at none before.
 pub record NoTickToSpare : Type 0 where
-  pub warning-at-52 : warned .state .group ≡ record { interval = 3; age = 0; lanes = lanesEntered 2 }
+  pub warning-at-52 : warned .state .group ≡ record { interval = 3; age = 0; lanes = lanesEntered 2; bypass = noBypass }
   pub clearing-at-least : clearingTicks (timingsOf (leastSite 0)) ≡ 52
   pub startup-in-time : clearsWithin 52 warned (calls (leastSite 0) called600 52) ≡ true
   pub startup-no-tick-to-spare : clearsWithin 51 warned (calls (leastSite 0) called600 52) ≡ false

@@ -1,5 +1,5 @@
--- Document 01, 'Worked runs': the runs marked *, with the cycles that document 02's A2 gives, in the definitions that the calls' contracts
--- cite. One proof, `starred`, shows them all.
+-- Document 01, 'Worked runs': the runs marked *, with the cycles that document 02's A2 gives and the bytes that its A4 gives, in the
+-- definitions that the calls' contracts cite. One proof, `starred`, shows them all.
 use Prim.Native.Nat.{ℕ}
 use mathlib.Core.Path.{_≡_}
 use mathlib.Core.Bool.{true, false}
@@ -14,13 +14,8 @@ use Rattle.levels.specs.declared.Level.{Level}
 use Rattle.levels.specs.Measures.{totalsOf, measuresOf}
 use Rattle.levels.specs.Levels.{isMet}
 use Rattle.release.specs.Cycle.{cycleTicks}
-use Rattle.waiting.specs.Bound.{waitingBound}
-use Rattle.site.specs.Named.{timingsOf}
-use Rattle.tick.specs.Course.{atPowerUp, courseAfter, acceptedTicks}
-use Rattle.tick.specs.Waiting.{beginsWithin}
-use Rattle.worked_runs.specs.SiteA.{siteWith, leastSite, siteA, siteAWithOffset}
-use Rattle.worked_runs.specs.Run.{metering600, answerAt, releases, waitsThroughout, calls}
-use Rattle.worked_runs.specs.TwoLanes.{releasedLast, thenBoth}
+use Rattle.worked_runs.specs.SiteA.{siteA, siteAWithOffset}
+use Rattle.worked_runs.specs.Run.{metering600, answerAt, releases}
 
 abbrev pub date : ℕ → ℕ → ℕ → Date
 date year month day = record { year = year; month = month; day = day }
@@ -57,11 +52,12 @@ pub record Starred : Type 0 where
   pub below-1260 : isMet (flowLevel 1260) (measuresOf (totalsOf (threeLanes 10 10 11) 3)) ≡ false
   pub flow-32 : measuresOf (totalsOf (threeLanes 10 11 11) 3) .flow ≡ 1280
   pub met-1260 : isMet (flowLevel 1260) (measuresOf (totalsOf (threeLanes 10 11 11) 3)) ≡ true
-  -- "A file with empty lists is 38 bytes, 37 gives 1, 39 gives 7."
-  pub empty-lists : length (bytesOf siteA) ≡ 38
+  -- "A file with empty lists is 38 bytes, 37 gives 1, 39 gives 7." Document 02, A4, has all three 4 higher: "The file with empty lists is
+  -- now 42 bytes."
+  pub empty-lists : length (bytesOf siteA) ≡ 42
   pub accepted : readOf (bytesOf siteA) ≡ record { refusal = 0; place = 0; site = siteA }
-  pub one-byte-less : readOf (take 37 (bytesOf siteA)) ≡ refused 1 37
-  pub one-byte-more : readOf (bytesOf siteA ++ (0 ∷ [])) ≡ refused 7 38
+  pub one-byte-less : readOf (take 41 (bytesOf siteA)) ≡ refused 1 41
+  pub one-byte-more : readOf (bytesOf siteA ++ (0 ∷ [])) ≡ refused 7 42
   -- "Tick 50 dark, 51 green, 61 warning, 291 metering, 311 lane 1, 331 lane 2, 371 lane 1."
   pub dark-at-50 : answerAt siteA metering600 50 .shown .colours ≡ 0 ∷ 0 ∷ 0 ∷ 0 ∷ []
   pub green-at-51 : answerAt siteA metering600 51 .shown .colours ≡ 3 ∷ 3 ∷ 0 ∷ 0 ∷ []
@@ -73,26 +69,3 @@ pub record Starred : Type 0 where
   pub released : releases siteA metering600 371 ≡ (311, 1) ∷ (331, 2) ∷ (371, 1) ∷ []
   -- "With fractional offset lane 2 begins at 341."
   pub released-with-offset : releases siteAWithOffset metering600 371 ≡ (311, 1) ∷ (341, 2) ∷ (371, 1) ∷ []
-  -- The words of demand 3, computed on these runs: lane 2 waits from tick 291 on, no cycle exceeds 60, and its green begins at the 41st tick
-  -- of the run, well before the 80th.
-  pub bound-at-60 : waitingBound (timingsOf siteA) 60 ≡ 80
-  pub bound-with-offset : waitingBound (timingsOf siteAWithOffset) 60 ≡ 90
-  pub before-metering : acceptedTicks (atPowerUp siteA) (calls siteA metering600 290) ≡ 290
-  pub begins-at-41 : beginsWithin 2 41 (courseAfter (atPowerUp siteA) (calls siteA metering600 290)) (calls siteA metering600 80) ≡ true
-  pub not-at-40 : beginsWithin 2 40 (courseAfter (atPowerUp siteA) (calls siteA metering600 290)) (calls siteA metering600 80) ≡ false
-  -- And the number is exact: with one lane, released at 311 and 371, a run from tick 312 on meets the bound with no tick to spare.
-  pub one-waiting : waitsThroughout 1 60 (courseAfter (atPowerUp (siteWith 1 0)) (calls (siteWith 1 0) metering600 311)) (calls (siteWith 1 0) metering600 60) ≡ true
-  pub bound-of-one-lane : waitingBound (timingsOf (siteWith 1 0)) 60 ≡ 60
-  pub in-time : beginsWithin 1 60 (courseAfter (atPowerUp (siteWith 1 0)) (calls (siteWith 1 0) metering600 311)) (calls (siteWith 1 0) metering600 60) ≡ true
-  pub no-tick-to-spare : beginsWithin 1 59 (courseAfter (atPowerUp (siteWith 1 0)) (calls (siteWith 1 0) metering600 311)) (calls (siteWith 1 0) metering600 60) ≡ false
-  -- So is the turn of the other lane, in both service modes: at 879, a cycle of 41, lane 2, released at tick 102 and waiting ever since, is
-  -- ready at 143; there lane 1's demand comes, whose turn is first. Lane 2 is released at 153, when lane 1's green has ended, or at 164,
-  -- half a cycle rounded up after it: the run's 51st tick, or its 62nd, and the bound's last.
-  pub two-waiting : waitsThroughout 2 41 (releasedLast 879 0) (thenBoth 879 0 40 22) ≡ true
-  pub bound-of-two-lanes : waitingBound (timingsOf (leastSite 0)) 41 ≡ 51
-  pub two-in-time : beginsWithin 2 51 (releasedLast 879 0) (thenBoth 879 0 40 22) ≡ true
-  pub two-no-tick-to-spare : beginsWithin 2 50 (releasedLast 879 0) (thenBoth 879 0 40 22) ≡ false
-  pub two-waiting-with-offset : waitsThroughout 2 41 (releasedLast 879 1) (thenBoth 879 1 40 22) ≡ true
-  pub bound-of-two-with-offset : waitingBound (timingsOf (leastSite 1)) 41 ≡ 62
-  pub two-with-offset-in-time : beginsWithin 2 62 (releasedLast 879 1) (thenBoth 879 1 40 22) ≡ true
-  pub two-with-offset-no-tick-to-spare : beginsWithin 2 61 (releasedLast 879 1) (thenBoth 879 1 40 22) ≡ false

@@ -1,4 +1,4 @@
--- The code's test is the definition's.
+-- The code's tests are the definition's.
 use Rattle.group.specs.Group.{groupOf}
 use borrow.Author.Tests.{eq-eqb, ne-eqb}
 use borrow.Author.Needs.{needs}

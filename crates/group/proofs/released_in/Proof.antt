@@ -1,4 +1,4 @@
--- The code's test is the definition's.
+-- The code's tests are the definition's.
 use Rattle.group.specs.Group.{releasedIn}
 use borrow.Author.Tests.{eq-eqb, ne-eqb}
 use borrow.Author.Needs.{needs}
@@ -10,11 +10,19 @@ released-requires c κs = search needs
 
 returns : tie.Need-returns
 unfolding releasedIn
-returns c = rw (eq-eqb _ _ (c .before .if1 .taken)) (c .released .ensures)
+returns c = rw (c .before .if1 .taken) (c .released .ensures)
+
+released-requires-2 : tie.Need-released-requires-2
+released-requires-2 c κs = search needs
 
 returns-2 : tie.Need-returns-2
 unfolding releasedIn
-returns-2 c = rw (ne-eqb _ _ (c .if1 .left))
+returns-2 c = rw (c .before .before .if1 .left, eq-eqb _ _ (c .before .if2 .taken)) (c .released2 .ensures)
+
+returns-3 : tie.Need-returns-3
+unfolding releasedIn
+returns-3 c = rw (c .before .if1 .left, ne-eqb _ _ (c .if2 .left))
 
 pub released-in-spec : {M : Type 1} → statement M
-released-in-spec = tie.close (tie.spec released-requires returns returns-2)
+released-in-spec =
+    tie.close (tie.spec released-requires returns released-requires-2 returns-2 returns-3)

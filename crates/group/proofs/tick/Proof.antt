@@ -1,4 +1,4 @@
--- The interval, the lanes, the release.
+-- The interval, the bypass, the lanes, the release.
 use Rattle.group.specs.Group.{movedOf, lanesMoved, movedWith}
 use borrow.Author.Needs.{needs}
 use Rattle.group.proofs.tick.Statement.{statement}
@@ -6,6 +6,12 @@ use Rattle.group.proofs.tick.Tie as tie
 
 interval-of-requires : tie.Need-interval-of-requires
 interval-of-requires c κs = search needs
+
+bypass-in-requires : tie.Need-bypass-in-requires
+bypass-in-requires c κs = search needs
+
+endings-requires : tie.Need-endings-requires
+endings-requires c κs = search needs
 
 lanes-in-requires : tie.Need-lanes-in-requires
 lanes-in-requires c κs = search needs
@@ -21,13 +27,26 @@ group-of-requires c κs = search needs
 
 returns : tie.Need-returns
 unfolding movedOf lanesMoved movedWith
-returns c = rw (c .group-of .ensures, c .before .release .ensures, c .before .before .released-in .ensures, c .before .before .before .before .lanes-in .ensures, c .before .before .before .before .before .before .before .interval-of .ensures)
+returns c =
+    let l = c .before .before .before .before in
+    let b = l .before .before .before .before in
+    rw (
+      c .group-of .ensures,
+      c .before .release .ensures,
+      c .before .before .released-in .ensures,
+      l .lanes-in .ensures,
+      l .before .before .endings .ensures,
+      b .bypass-in .ensures,
+      b .before .before .interval-of .ensures,
+    )
 
 pub tick-spec : {M : Type 1} → statement M
 tick-spec =
     tie.close
     (tie.spec
     interval-of-requires
+    bypass-in-requires
+    endings-requires
     lanes-in-requires
     released-in-requires
     release-requires

@@ -12,12 +12,18 @@ returns : tie.Need-returns
 unfolding laneTickAt
 returns c = rw (le-ltb _ _ (c .if1 .taken)) (c .before .before .lane-at .ensures)
 
+add-ending-of : tie.Need-add-ending-of
+add-ending-of c = search needs
+
+ending-of-requires : tie.Need-ending-of-requires
+ending-of-requires c κs = search needs
+
 lane-tick-requires : tie.Need-lane-tick-requires
 lane-tick-requires c κs = search needs
 
 returns-2 : tie.Need-returns-2
 unfolding laneTickAt
-returns-2 c = rw (lt-ltb _ _ (c .before .if1 .left), ← c .before .before .before .lane-at .ensures) (c .lane-tick .ensures)
+returns-2 c = rw (lt-ltb _ _ (c .before .before .if1 .left), ← c .before .ending-of .ensures, ← c .before .before .before .before .lane-at .ensures) (c .lane-tick .ensures)
 
 pub tick-at-spec : {M : Type 1} → statement M
-tick-at-spec = tie.close (tie.spec lane-at-requires returns lane-tick-requires returns-2)
+tick-at-spec = tie.close (tie.spec lane-at-requires returns add-ending-of ending-of-requires lane-tick-requires returns-2)

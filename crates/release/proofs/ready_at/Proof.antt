@@ -7,8 +7,8 @@ use Rattle.release.proofs.ready_at.Tie as tie
 sub-i : tie.Need-sub-i
 sub-i c = search needs
 
-demand-at-requires : tie.Need-demand-at-requires
-demand-at-requires c κs = search needs
+sample-at-requires : tie.Need-sample-at-requires
+sample-at-requires c κs = search needs
 
 lane-at-requires : tie.Need-lane-at-requires
 lane-at-requires c κs = search needs
@@ -18,8 +18,8 @@ is-ready-requires c κs = search needs
 
 returns : tie.Need-returns
 unfolding readyAt
-returns c = simp (c .is-ready .ensures, c .before .lane-at .ensures, c .before .before .demand-at .ensures)
+returns c = simp (c .is-ready .ensures, c .before .lane-at .ensures, c .before .before .sample-at .ensures)
 
 pub ready-at-spec : {M : Type 1} → statement M
 ready-at-spec =
-    tie.close (tie.spec sub-i demand-at-requires lane-at-requires is-ready-requires returns)
+    tie.close (tie.spec sub-i sample-at-requires lane-at-requires is-ready-requires returns)

@@ -1,4 +1,4 @@
--- Both numbers are the named timings'.
+-- The numbers are the named timings'.
 use borrow.Author.Needs.{needs}
 use Rattle.site.proofs.shape_of.Statement.{statement}
 use Rattle.site.proofs.shape_of.Tie as tie

@@ -11,7 +11,7 @@ slice-aggregate-spoilt-section : tie.Need-slice-aggregate-spoilt-section
 slice-aggregate-spoilt-section c = search needs
 
 spoilt-section-requires : tie.Need-spoilt-section-requires
-spoilt-section-requires c κs = let l : length (c .before .before .args .site .timings) ≡ 15 = search needs in omega arith
+spoilt-section-requires c κs = let l : length (c .before .before .args .site .timings) ≡ 17 = search needs in omega arith
 
 returns : tie.Need-returns
 unfolding spoiltSite

@@ -50,6 +50,12 @@ element-copy-out-t44 c = search needs
 element-copy-out-t47 : tie.Need-element-copy-out-t47
 element-copy-out-t47 c = search needs
 
+element-copy-out-t50 : tie.Need-element-copy-out-t50
+element-copy-out-t50 c = search needs
+
+element-copy-out-t53 : tie.Need-element-copy-out-t53
+element-copy-out-t53 c = search needs
+
 returns : tie.Need-returns
 unfolding timingsOf
 returns c = refl
@@ -73,4 +79,6 @@ timings-of-spec =
     element-copy-out-t41
     element-copy-out-t44
     element-copy-out-t47
+    element-copy-out-t50
+    element-copy-out-t53
     returns)

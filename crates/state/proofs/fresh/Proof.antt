@@ -7,12 +7,15 @@ use Rattle.state.proofs.fresh.Tie as tie
 entered-requires : tie.Need-entered-requires
 entered-requires c κs = search needs
 
+none-requires : tie.Need-none-requires
+none-requires c κs = search needs
+
 no-periods-requires : tie.Need-no-periods-requires
 no-periods-requires c κs = search needs
 
 returns : tie.Need-returns
 unfolding freshState
-returns c = rw (c .before .entered .ensures, c .no-periods .ensures)
+returns c = rw (c .before .before .entered .ensures, c .before .none .ensures, c .no-periods .ensures)
 
 pub fresh-spec : {M : Type 1} → statement M
-fresh-spec = tie.close (tie.spec entered-requires no-periods-requires returns)
+fresh-spec = tie.close (tie.spec entered-requires none-requires no-periods-requires returns)

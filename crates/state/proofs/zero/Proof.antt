@@ -4,12 +4,15 @@ use borrow.Author.Needs.{needs}
 use Rattle.state.proofs.zero.Statement.{statement}
 use Rattle.state.proofs.zero.Tie as tie
 
+none-requires : tie.Need-none-requires
+none-requires c κs = search needs
+
 no-periods-requires : tie.Need-no-periods-requires
 no-periods-requires c κs = search needs
 
 returns : tie.Need-returns
 unfolding zeroState
-returns c = rw (c .no-periods .ensures)
+returns c = rw (c .before .none .ensures, c .no-periods .ensures)
 
 pub zero-spec : {M : Type 1} → statement M
-zero-spec = tie.close (tie.spec no-periods-requires returns)
+zero-spec = tie.close (tie.spec none-requires no-periods-requires returns)

@@ -4,15 +4,11 @@ use Rattle.state.specs.State.{stateSpoilt}
 use Rattle.tick.specs.Tick.{countedIn, decidedIn, cycleIn, movedIn, acceptedTick}
 use Rattle.tick.proofs.TickLaws.{Accepted, accepted, cycle-in, tick-keeps}
 use Rattle.site.specs.Named.{meteredLanes, mainlineLanes, shapeOf}
-use Rattle.wanted.specs.declared.Decision.{Decision}
-use Rattle.wanted.specs.Wish.{rateOf}
 use Rattle.wanted.specs.Decision.{decisionOf}
 use Rattle.wanted.proofs.ClockLaws.{tenth-good}
-use Rattle.release.specs.Cycle.{cycleTicks}
 use Rattle.period.proofs.RangeLaws.{periods-good, good-periods, periods-room}
 use Rattle.state.proofs.StateLaws.{state-good, good-state}
-use Prim.Native.Nat.{_≤_}
-use mathlib.Core.Path.{_≡_, ap, sym, subst, _∙_}
+use mathlib.Core.Path.{_≡_, ap, _∙_}
 use borrow.Author.Needs.{needs}
 use Rattle.tick.proofs.advance.Statement.{statement}
 use Rattle.tick.proofs.advance.Tie as tie
@@ -35,22 +31,33 @@ cycled : (c : tie.After-cycle-of) → let a = c .before .before .before .before 
 unfolding cycleIn
 cycled c = c .cycle-of .ensures ∙ rw (c .before .before .before .before .before .before .before .before .before .timings-of .ensures, decided (c .before))
 
-moved : (c : tie.After-tick) → let a = c .before .before .before .before .before .before .before .before .before .before .before .before .args in c .tick .result ≡ movedIn (a .site) (a .state) (a .input)
+moved : (c : tie.After-tick) → let a = c .before .before .before .before .before .before .before .before .before .before .before .before .before .args in c .tick .result ≡ movedIn (a .site) (a .state) (a .input)
 unfolding movedIn
-moved c = c .tick .ensures ∙ rw (c .before .before .before .before .before .before .before .before .before .before .before .timings-of .ensures, decided (c .before .before .before), cycled (c .before .before))
+moved c = c .tick .ensures ∙ rw (c .before .before .before .before .before .before .before .before .before .before .before .before .timings-of .ensures, decided (c .before .before .before .before), cycled (c .before .before .before))
 
-is : (c : tie.After-shown) → let a = c .before .before .before .before .before .before .before .before .before .before .before .before .before .before .before .args in
+is : (c : tie.After-does) → let m = c .before .before .before .before .before .before in let a = m .before .before .before .before .before .before .before .before .before .before .before .before .before .args in
     record {
       refusal = 0;
-      state = record { group = c .before .before .before .tick .result .group; periods = c .before .after-release .result };
-      shown = c .shown .result;
-      decision = c .before .before .before .before .before .before .wanted-now .result;
-      cycle = c .before .before .before .before .before .cycle-of .result;
-      released = c .before .before .before .tick .result .released;
+      state = record { group = m .tick .result .group; periods = c .before .before .after-release .result };
+      shown = c .before .shown .result;
+      decision = m .before .before .before .before .wanted-now .result;
+      cycle = m .before .before .before .cycle-of .result;
+      released = m .tick .result .released;
+      bypass = c .does .result;
     } ≡ acceptedTick (a .site) (a .state) (a .input)
 unfolding acceptedTick
 is c =
-    rw (c .shown .ensures, c .before .before .before .before .before .before .before .before .before .before .before .before .before .before .timings-of .ensures, c .before .after-release .ensures, moved (c .before .before .before), decided (c .before .before .before .before .before .before), cycled (c .before .before .before .before .before), counted (c .before .before .before .before .before .before .before .before .before .before))
+    let m = c .before .before .before .before .before .before in
+    rw (
+      c .does .ensures,
+      c .before .shown .ensures,
+      m .before .before .before .before .before .before .before .before .before .before .before .before .timings-of .ensures,
+      c .before .before .after-release .ensures,
+      moved m,
+      decided (m .before .before .before .before),
+      cycled (m .before .before .before),
+      counted (m .before .before .before .before .before .before .before .before),
+    )
 
 timings-of-requires : tie.Need-timings-of-requires
 timings-of-requires c κs = search needs
@@ -79,7 +86,7 @@ tick-requires c κs = search needs
 
 after-release-requires : tie.Need-after-release-requires
 after-release-requires c κs =
-    let r = c .before .before .before .before .before .before .before .before in
+    let r = c .before .before .before .before .before .before .before .before .before .before .before in
     let a = r .before .before .before .before .before .args in
     let n = meteredLanes (a .site) in
     let m = mainlineLanes (a .site) in
@@ -88,9 +95,12 @@ after-release-requires c κs =
 shown-requires : tie.Need-shown-requires
 shown-requires c κs = search needs
 
+does-requires : tie.Need-does-requires
+does-requires c κs = search needs
+
 returns : tie.Need-returns
 returns c =
-    let s = c .before .before .before .before .before .before .before .before .before .before .before .before .before .before .before in
+    let s = c .before .before .before .before .before .before .before .before .before .before .before .before .before .before .before .before .before .before .before in
     let a = s .args in (
       is c,
       ap (λ (r : Ticked). stateSpoilt (r .state) (shapeOf (a .site))) (is c)
@@ -108,4 +118,5 @@ advance-spec =
     tick-requires
     after-release-requires
     shown-requires
+    does-requires
     returns)

@@ -1,7 +1,6 @@
 -- The check for 14, then zeros or a fresh state.
 use Rattle.tick.specs.Tick.{powerUpOf}
-use Rattle.tick.proofs.WaitingLaws.{waiting-bound}
-use Rattle.tick.proofs.PreemptionLaws.{preemption-clears}
+use Rattle.tick.proofs.ServingLaws.{over-lists}
 use Rattle.site.specs.Named.{meteredLanes, shapeOf}
 use Rattle.site.proofs.TimingLaws.{timings-good}
 use Rattle.state.specs.State.{freshState}
@@ -22,7 +21,7 @@ returns : tie.Need-returns
 unfolding powerUpOf
 returns c =
     let r = c .before .before in
-    (rw (← r .spoilt .ensures, c .before .if1 .taken, c .zero .ensures), ((λ z. absurd (omega arith)), (waiting-bound _, preemption-clears _)))
+    (rw (← r .spoilt .ensures, c .before .if1 .taken, c .zero .ensures), ((λ z. absurd (omega arith)), over-lists _))
 
 shape-of-requires : tie.Need-shape-of-requires
 shape-of-requires c κs = search needs
@@ -38,7 +37,7 @@ returns-2 c =
     let ok = sym (r .spoilt .ensures) ∙ c .before .before .if1 .left in
     let good = fresh-good (shapeOf x) (timings-good x ok .lanes-least) in (
       rw (ok, c .fresh .ensures, c .before .shape-of .ensures),
-      ((λ _. rw (c .fresh .ensures, c .before .shape-of .ensures) (good-state (freshState (meteredLanes x)) (shapeOf x) good)), (waiting-bound _, preemption-clears _)),
+      ((λ _. rw (c .fresh .ensures, c .before .shape-of .ensures) (good-state (freshState (meteredLanes x)) (shapeOf x) good)), over-lists _),
     )
 
 pub power-up-spec : {M : Type 1} → statement M

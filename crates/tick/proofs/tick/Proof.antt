@@ -1,9 +1,8 @@
 -- The checks, then the refused or the accepted tick.
 use Rattle.tick.specs.declared.Ticked.{Ticked}
 use Rattle.tick.specs.Tick.{refusedTick, tickOf}
-use Rattle.tick.proofs.TickLaws.{accepted, tick-entry, tick-steered, tick-cycle}
-use Rattle.tick.proofs.WaitingLaws.{waiting-bound}
-use Rattle.tick.proofs.PreemptionLaws.{preemption-clears}
+use Rattle.tick.proofs.TickLaws.{accepted, tick-entry, tick-steered, tick-cycle, tick-bypassed}
+use Rattle.tick.proofs.ServingLaws.{over-lists}
 use borrow.Author.Tests.{ne-eqb, eq-eqb}
 use mathlib.Core.Path.{_≡_, ap, sym, _∙_}
 use borrow.Author.Needs.{needs}
@@ -25,7 +24,7 @@ returns c =
       rw (← r .refusal-of .ensures, ne-eqb _ _ (c .before .if1 .taken)) (c .refused .ensures),
       (
         (λ z. absurd (never z)),
-        ((λ z. absurd (never z)), ((λ z. absurd (never z)), ((λ z. absurd (never z)), (waiting-bound _, preemption-clears _)))),
+        ((λ z. absurd (never z)), ((λ z. absurd (never z)), ((λ z. absurd (never z)), ((λ z. absurd (never z)), over-lists _)))),
       ),
     )
 
@@ -47,7 +46,7 @@ returns-2 c =
             (λ _. rw (c .advance .ensures .0) (tick-steered (a .site) (a .state) (a .input))),
             (
               (λ _. rw (c .advance .ensures .0) (tick-cycle (a .site) (a .state) (a .input) passed)),
-              (waiting-bound _, preemption-clears _),
+              ((λ _. rw (c .advance .ensures .0) (tick-bypassed (a .site) (a .state) (a .input) passed)), over-lists _),
             ),
           ),
         ),

@@ -24,8 +24,9 @@ mainline-of-requires : tie.Need-mainline-of-requires
 unfolding mainlineAt
 mainline-of-requires c κs = omega (arith, c .before .before .before .before .mainline-at .ensures)
 
-number-at-requires : tie.Need-number-at-requires
-number-at-requires c κs = search needs
+calls-of-requires : tie.Need-calls-of-requires
+unfolding mainlineAt callsAt
+calls-of-requires c κs = omega (arith, c .before .before .before .before .calls-at .ensures)
 
 command-of-requires : tie.Need-command-of-requires
 unfolding mainlineAt callsAt commandsAt
@@ -37,11 +38,14 @@ add-command-of c = omega (arith, c .before .before .before .before .before .comm
 
 command-of-requires-2 : tie.Need-command-of-requires-2
 unfolding mainlineAt callsAt commandsAt
-command-of-requires-2 c κs = omega (arith, c .before .before .before .before .before .commands-at .ensures)
+command-of-requires-2 c κs =
+    let p = c .before .before .before .before .before in
+    let start = p .before .before .before .before in
+    omega (arith, p .commands-at .ensures, start .fits .n .fits, start .fits .m .fits)
 
 returns : tie.Need-returns
 unfolding inputOf
-returns c = simp (c .command-of2 .ensures, c .before .command-of .ensures, c .before .before .number-at .ensures, c .before .before .before .mainline-of .ensures, c .before .before .before .before .metered-of .ensures, c .before .before .before .before .before .clock-of .ensures, c .before .before .before .before .before .before .commands-at .ensures, c .before .before .before .before .before .before .before .calls-at .ensures, c .before .before .before .before .before .before .before .before .mainline-at .ensures)
+returns c = simp (c .command-of2 .ensures, c .before .command-of .ensures, c .before .before .calls-of .ensures, c .before .before .before .mainline-of .ensures, c .before .before .before .before .metered-of .ensures, c .before .before .before .before .before .clock-of .ensures, c .before .before .before .before .before .before .commands-at .ensures, c .before .before .before .before .before .before .before .calls-at .ensures, c .before .before .before .before .before .before .before .before .mainline-at .ensures)
 
 pub input-of-spec : {M : Type 1} → statement M
 input-of-spec =
@@ -53,7 +57,7 @@ input-of-spec =
     clock-of-requires
     metered-of-requires
     mainline-of-requires
-    number-at-requires
+    calls-of-requires
     command-of-requires
     add-command-of
     command-of-requires-2

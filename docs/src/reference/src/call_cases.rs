@@ -1,5 +1,6 @@
 //! The stored cases of `crates/call_cases`.
 
+use crate::bypass_cases;
 use crate::cases;
 use crate::midnight_cases;
 use crate::nearest_cases;
@@ -13,6 +14,7 @@ const DECISIONS: usize = 3500;
 
 pub fn cases() -> Vec<Vec<u8>> {
     let mut r = Random::new(SEED);
-    let named = [preemption_cases::cases(), nearest_cases::cases(), midnight_cases::cases(), refusal_cases::cases()].concat();
+    let calls = [preemption_cases::cases(), bypass_cases::cases()].concat();
+    let named = [calls, nearest_cases::cases(), midnight_cases::cases(), refusal_cases::cases()].concat();
     [tick_cases::cases(&mut r), named, cases::cases(&mut r, DECISIONS)].concat()
 }

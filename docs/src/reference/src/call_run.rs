@@ -6,13 +6,15 @@
 //! 3 a number of the site record set to any value: its section from 0, its place from 1 or 0 for the count, the value;
 //! 4 the site record of the file again; 5 power-up;
 //! 6 poll into a buffer of so many bytes, or of `ROOM` where that is less;
-//! 7 decide: a row of no lanes, whose preemption is not looked at; 8 write into such a buffer.
+//! 7 decide: a row of no lanes, whose calls are not looked at; 8 write into such a buffer.
 //! An unknown or a cut operation ends the case.
 
+use crate::bypass::Bypass;
+use crate::bypass_watch;
 use crate::calendar::Clock;
 use crate::output::{Outcome, ROOM};
 use crate::periods::Counts;
-use crate::preemption::Watch;
+use crate::preemption;
 use crate::record::Record;
 use crate::row;
 use crate::site::{self, Site};
@@ -130,6 +132,7 @@ impl Words {
         });
         state.offset = self.one()?;
         state.last = self.one()?;
+        state.bypass = Bypass { kept: self.one()? != 0, mark: self.one()? != 0, timer: self.one()? };
         state.periods.ticks = self.one()?;
         state.periods.current = self.counts()?;
         state.periods.serial = self.long()?;
@@ -156,7 +159,7 @@ impl Words {
 
 fn tick_line(a: &Answer) -> String {
     let (lamps, decision) = (text::lamps(&a.indications, 4), text::decision(&a.decision));
-    format!("{} {} {lamps} {decision} {} {}", a.refusal, a.state.interval, a.cycle, a.released)
+    format!("{} {} {lamps} {decision} {} {} {}", a.refusal, a.state.interval, a.cycle, a.released, a.bypass.word())
 }
 
 fn state_line(state: &State) -> String {
@@ -178,7 +181,8 @@ struct Run<'a> {
     state: State,
     /// The site of the last power-up, while every tick accepted since is at that site, and no state came from elsewhere.
     powered: Option<Site>,
-    watch: Watch,
+    preemptions: preemption::Watch,
+    bypasses: bypass_watch::Watch,
     /// Of the decisions and of the ticks.
     decided: InForce,
     ticked: InForce,
@@ -196,7 +200,8 @@ impl Run<'_> {
         self.tally.refused(refusal);
         self.state = state;
         self.powered = self.site.clone();
-        self.watch.end_call();
+        self.preemptions.end_call();
+        self.bypasses.power_up();
         writeln!(self.out, "power {refusal}").unwrap();
         self.print_state();
     }
@@ -215,8 +220,10 @@ impl Run<'_> {
             }
             self.tally.count("ticks accepted", (answer.refusal == 0) as u64);
             self.tally.count("lanes released", (answer.released != 0) as u64);
+            if answer.refusal == 0 {
+                self.watch_calls(&input, &answer);
+            }
             self.state = answer.state;
-            self.watch_call(answer.refusal, input.preemption);
             let half = self.goes_up(answer.decision.wish);
             self.tally.count("ticks whose cycle is a half going up", half);
             self.ticked.note(input.clock, &answer.decision);
@@ -235,13 +242,15 @@ impl Run<'_> {
         self.site.as_ref().is_some_and(|site| half_goes_up(site, wish)) as u64
     }
 
-    fn watch_call(&mut self, refusal: u8, preemption: u16) {
-        if refusal != 0 {
-            return;
-        }
-        self.tally.count("ticks accepted under preemption", preemption as u64);
+    /// Of an accepted tick, from the present state.
+    fn watch_calls(&mut self, input: &Input, answer: &Answer) {
+        self.tally.count("ticks accepted under preemption", input.preemption as u64);
         if let Some(site) = &self.powered {
-            self.watch.tick(site, preemption, self.state.interval);
+            self.preemptions.tick(site, input.preemption, answer.state.interval);
+        }
+        if let Some(site) = &self.site {
+            let tick = bypass_watch::Tick { site, before: &self.state, input, answer };
+            self.bypasses.tick(tick, self.powered.is_some());
         }
     }
 
@@ -334,7 +343,8 @@ pub fn answer(case: &[u8], tally: &mut Tally) -> String {
         given,
         state: State::default(),
         powered: None,
-        watch: Watch::default(),
+        preemptions: preemption::Watch::default(),
+        bypasses: bypass_watch::Watch::default(),
         decided: InForce::default(),
         ticked: InForce::default(),
         out: String::new(),
@@ -344,7 +354,8 @@ pub fn answer(case: &[u8], tally: &mut Tally) -> String {
     while let Some(op) = words.op() {
         run.op(op);
     }
-    run.watch.count(run.tally);
+    run.preemptions.count(run.tally);
+    run.bypasses.count(run.tally);
     run.decided.count("decisions", run.tally);
     run.ticked.count("ticks", run.tally);
     run.ticked.count_midnights("ticks", run.tally);

@@ -82,7 +82,14 @@ pub fn periods(r: &mut Random, n: usize, m: usize) -> Periods {
 pub fn timings(r: &mut Random) -> Vec<u16> {
     let mut row: Vec<u16> = TIMINGS.iter().map(|(low, high)| r.edged(*low, *high)).collect();
     row[4] = r.edged(row[3], 100);
+    (row[15], row[16]) = bypass_timings(r, row[0]);
     row
+}
+
+/// The priority lane of n, mostly one that there is, and a timeout.
+pub fn bypass_timings(r: &mut Random, n: u16) -> (u16, u16) {
+    let (some, seconds) = (r.number(1, n), r.number(3, 20));
+    (r.pick(&[0, some, some, some, some]), r.pick(&[0, 0, 1, 1, 2, 2, 255, seconds, seconds]))
 }
 
 /// How many rows: mostly few, at times all.
@@ -413,14 +420,24 @@ fn damage_kept_lane(r: &mut Random, state: &mut State) {
     }
 }
 
+/// A bypass kept, at times where none may be; a timer at its end or beyond, or without a bypass.
+fn damage_bypass(r: &mut Random, state: &mut State) {
+    match r.from(0, 2) {
+        0 => state.bypass.kept = true,
+        1 => state.bypass.timer = r.pick(&[1, 2550, 2551, UNUSED]),
+        _ => (state.bypass.kept, state.interval) = (true, r.number(0, 9)),
+    }
+}
+
 /// One number beyond its range, at times at its end, at a site of n lanes.
 pub fn damage_state(r: &mut Random, n: u16, state: &mut State) {
-    match r.from(0, 9) {
+    match r.from(0, 11) {
         0 => state.interval = r.pick(&[9, 10, 11, 256, UNUSED]),
         1 => state.age = r.pick(&[36000, 36001, UNUSED]),
         2 => state.offset = r.pick(&[720, 721, UNUSED]),
         3 => state.last = r.pick(&[0, n, n + 1, 5, UNUSED]),
         4..=6 => damage_kept_lane(r, state),
+        7 | 8 => damage_bypass(r, state),
         _ => damage_period(r, &mut state.periods),
     }
 }

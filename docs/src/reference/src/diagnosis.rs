@@ -31,6 +31,8 @@ const SECTIONS: [Section; 4] = [
             "maximum pre-metering green",
             "minimum pre-metering green",
             "mainline lanes",
+            "priority lane",
+            "bypass timeout",
         ],
     },
     Section { plural: "plan entries", row: "plan entry", numbers: &["days", "start minute", "mode", "rate", "level table"] },

@@ -1,10 +1,10 @@
 //! Site files for the tests: each bound of each number from both sides, and files cut and drawn out.
 
-use crate::site::{bytes, Site, UNUSED};
+use crate::site::{bytes, timing_range, Site, TIMINGS, UNUSED};
 
 /// The paper's site A with empty lists.
 pub fn site_a() -> Site {
-    Site { timings: vec![2, 0, 1, 10, 20, 20, 20, 100, 50, 30, 50, 10, 1, 10, 1], ..Site::default() }
+    Site { timings: vec![2, 0, 1, 10, 20, 20, 20, 100, 50, 30, 50, 10, 1, 10, 1, 0, 0], ..Site::default() }
 }
 
 /// A site with rows of every kind.
@@ -49,18 +49,30 @@ pub fn bound_files() -> Vec<Vec<u8>> {
     let a = site_a();
     let rows = site_with_rows();
 
-    // timings: the maximum green's low end is the minimum green, here 10
-    for (i, (low, high)) in crate::site::TIMINGS.iter().enumerate() {
-        for value in sides(*low, *high) {
+    // timings; the least maximum green is the minimum green, here 10
+    for i in 0..TIMINGS.len() {
+        let (low, high) = timing_range(&a.timings, i);
+        for value in sides(low, high) {
             out.push(with(&a, 1 + i, value));
         }
+    }
+    // the priority lane at each number of lanes
+    for n in 1..=4 {
+        let mut site = rows.clone();
+        site.timings[0] = n;
+        for lane in (0..=n + 1).chain([5, UNUSED]) {
+            out.push(with(&site, 1 + 15, lane));
+        }
+        // the number of lanes comes first, and is not at fault
+        site.timings[15] = 4;
+        out.push(bytes(&site));
     }
     for green in [19, 20, 21, 100, 101] {
         out.push(with(&a, 1 + 3, green));
     }
 
     // entries: days, start and mode; the rate and the table in each mode
-    let entry = 17;
+    let entry = 19;
     for (j, low, high) in [(0, 1, 255), (1, 0, 1439), (2, 0, 3)] {
         for value in sides(low, high) {
             out.push(with(&rows, entry + j, value));
@@ -113,7 +125,7 @@ pub fn bound_files() -> Vec<Vec<u8>> {
     }
 
     // each count, one short and one long, and far beyond
-    for (at, counts) in [(0, [14, 16, 0]), (16, [1, 17, UNUSED]), (17, [1, 17, 256]), (18, [1, 25, UNUSED])] {
+    for (at, counts) in [(0, [15, 16, 18]), (0, [0, 14, UNUSED]), (18, [1, 17, UNUSED]), (19, [1, 17, 256]), (20, [1, 25, UNUSED])] {
         for n in counts {
             out.push(with(&a, at, n));
         }
@@ -128,7 +140,7 @@ pub fn bound_files() -> Vec<Vec<u8>> {
     for site in [&a, &rows, &longest()] {
         let file = bytes(site);
         for n in 0..=file.len() {
-            if n < 60 || site != &longest() || 540 < n {
+            if n < 60 || site != &longest() || 544 < n {
                 out.push(file[..n].to_vec());
             }
         }

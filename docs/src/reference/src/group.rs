@@ -1,6 +1,7 @@
-//! 'Group intervals' of document 01 with the preemption of document 02, and the release of 'Lanes in metering'.
+//! 'Group intervals' of document 01 with the preemption of document 02, and the release of 'Lanes in metering' with its bus bypass.
 
-use crate::lanes::{risen, Colour, Lane, LONGEST};
+use crate::bypass::{Bypass, Moment, Phase, Turn};
+use crate::lanes::{risen, Colour, GreenEnds, Lane, LONGEST};
 use crate::timings::Timings;
 use crate::wanted::Wish;
 
@@ -71,6 +72,7 @@ pub struct Group {
     pub offset: u16,
     /// The lane last released, from 1.
     pub last: usize,
+    pub bypass: Bypass,
 }
 
 /// What one tick brings to the group, behind its checks.
@@ -78,6 +80,8 @@ pub struct Wanted {
     pub wish: Wish,
     /// A preemption call is on.
     pub preemption: bool,
+    /// A bus calls.
+    pub bypass: bool,
     /// Of a wish to meter; no other has one.
     pub cycle: Option<u16>,
     /// Of each lane.
@@ -88,7 +92,7 @@ pub struct Wanted {
 impl Group {
     /// Initialization at age 0, lanes as on entering metering.
     pub fn power_up(n: usize) -> Group {
-        let mut group = Group { interval: Initialization, age: 0, lanes: Vec::new(), offset: 0, last: 0 };
+        let mut group = Group { interval: Initialization, age: 0, lanes: Vec::new(), offset: 0, last: 0, bypass: Bypass::default() };
         group.reset_lanes(n);
         group
     }
@@ -99,16 +103,22 @@ impl Group {
         self.last = n;
     }
 
-    /// One tick: group interval, lane intervals, release. Gives the lane released, from 1.
+    /// One tick: group interval, bypass, lane intervals, release. Gives the lane released, from 1.
     pub fn tick(&mut self, t: &Timings, w: &Wanted) -> Option<usize> {
         let entered = self.change_interval(t, w);
+        let turn = self.turn_bypass(t, w);
         if entered == Some(Metering) {
             // the numbers rise from the next tick on
             self.reset_lanes(t.lanes);
         } else if self.interval.runs_lanes() {
-            self.run_lanes(t, &w.passage);
+            self.run_lanes(t, &w.passage, turn);
         }
-        self.release(t, w)
+        let lane = match turn {
+            Turn::Kept => self.priority_in_turn(t),
+            Turn::Absent | Turn::Ended => self.lane_in_turn(t, w),
+        }?;
+        self.release(lane);
+        Some(lane)
     }
 
     // Group intervals.
@@ -169,29 +179,60 @@ impl Group {
         self.lanes.iter().all(|lane| lane.colour == Colour::Red)
     }
 
+    // Bypass.
+
+    /// The lanes are still as the tick before left them.
+    fn turn_bypass(&mut self, t: &Timings, w: &Wanted) -> Turn {
+        let passage = t.priority_lane != 0 && w.passage[t.priority_lane - 1];
+        let moment = Moment { call: w.bypass, metering: self.interval == Metering, green: self.priority_green(t), passage };
+        self.bypass.tick(t, moment)
+    }
+
+    fn priority_green(&self, t: &Timings) -> bool {
+        t.priority_lane != 0 && self.lanes[t.priority_lane - 1].colour == Colour::Green
+    }
+
+    /// Waiting or running, as the priority lane is.
+    pub fn bypass_phase(&self, t: &Timings) -> Phase {
+        self.bypass.phase(self.priority_green(t))
+    }
+
     // Lane intervals.
 
-    fn run_lanes(&mut self, t: &Timings, passage: &[bool]) {
+    fn run_lanes(&mut self, t: &Timings, passage: &[bool], turn: Turn) {
         self.offset = risen(self.offset);
-        for (lane, passage) in self.lanes.iter_mut().zip(passage) {
-            lane.tick(t, *passage);
+        for (i, (lane, passage)) in self.lanes.iter_mut().zip(passage).enumerate() {
+            let ends = match (turn, i + 1 == t.priority_lane) {
+                (Turn::Kept, true) => GreenEnds::Held,
+                (Turn::Kept, false) => GreenEnds::AtMinimum,
+                (Turn::Ended, true) => GreenEnds::Now,
+                _ => GreenEnds::AsEver,
+            };
+            lane.tick(t, *passage, ends);
         }
     }
 
     // Release.
 
+    /// Under a bypass: the priority lane, red at least the minimum, once the others are red.
+    fn priority_in_turn(&self, t: &Timings) -> Option<usize> {
+        let rested = self.lanes[t.priority_lane - 1].rested(t);
+        (rested && self.all_red()).then_some(t.priority_lane)
+    }
+
     /// In metering alone, the first ready lane from the one after the last released, if the mode allows one.
-    fn release(&mut self, t: &Timings, w: &Wanted) -> Option<usize> {
+    fn lane_in_turn(&self, t: &Timings, w: &Wanted) -> Option<usize> {
         let cycle = w.cycle?;
         if self.interval != Metering || !self.mode_allows(t, cycle) {
             return None;
         }
-        let ready = |lane: &usize| self.lanes[lane - 1].ready(t, w.demand[lane - 1], cycle);
-        let lane = self.in_turn().find(ready)?;
+        self.in_turn().find(|lane| self.lanes[lane - 1].ready(t, w.demand[lane - 1], cycle))
+    }
+
+    fn release(&mut self, lane: usize) {
         self.lanes[lane - 1].release();
         self.offset = 0;
         self.last = lane;
-        Some(lane)
     }
 
     /// The lanes in turn: those after the last released, then those from 1 up to it.

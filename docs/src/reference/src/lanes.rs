@@ -1,4 +1,4 @@
-//! One lane of 'Lanes in metering' of document 01.
+//! One lane of 'Lanes in metering' of document 01; with a bypass, document 02, its green ends by another rule.
 
 use crate::timings::Timings;
 
@@ -28,6 +28,18 @@ impl Colour {
     }
 }
 
+/// By which rule a green ends at a tick.
+#[derive(Clone, Copy, Debug, PartialEq)]
+pub enum GreenEnds {
+    /// At the minimum green with its vehicles through, or at the maximum green.
+    AsEver,
+    AtMinimum,
+    /// Not at this tick, whatever its age.
+    Held,
+    /// At this tick, whatever its age.
+    Now,
+}
+
 #[derive(Clone, Copy, Debug)]
 pub struct Lane {
     pub colour: Colour,
@@ -55,23 +67,27 @@ impl Lane {
     }
 
     /// One tick in metering or closing: the numbers rise, then the colour may end.
-    pub fn tick(&mut self, t: &Timings, passage: bool) {
+    pub fn tick(&mut self, t: &Timings, passage: bool, ends: GreenEnds) {
         self.age = risen(self.age);
         self.counter = risen(self.counter);
         if passage && self.colour == Colour::Green && self.passages < MOST_PASSAGES {
             self.passages += 1;
         }
         match self.colour {
-            Colour::Green if self.green_ends(t) => self.turn(Colour::Yellow),
+            Colour::Green if self.green_ends(t, ends) => self.turn(Colour::Yellow),
             Colour::Yellow if self.age >= t.yellow => self.turn(Colour::Red),
             _ => {}
         }
     }
 
-    /// At the minimum green with its vehicles through, or at the maximum green.
-    fn green_ends(&self, t: &Timings) -> bool {
+    fn green_ends(&self, t: &Timings, ends: GreenEnds) -> bool {
         let served = self.passages >= t.vehicles_per_green;
-        (served && self.age >= t.minimum_green) || self.age >= t.maximum_green
+        match ends {
+            GreenEnds::AsEver => (served && self.age >= t.minimum_green) || self.age >= t.maximum_green,
+            GreenEnds::AtMinimum => self.age >= t.minimum_green,
+            GreenEnds::Held => false,
+            GreenEnds::Now => true,
+        }
     }
 
     fn turn(&mut self, colour: Colour) {
@@ -81,7 +97,12 @@ impl Lane {
 
     /// Red at least the minimum, in demand, and at least a cycle from its last green's start.
     pub fn ready(&self, t: &Timings, demand: bool, cycle: u16) -> bool {
-        self.colour == Colour::Red && self.age >= t.minimum_red && demand && self.counter >= cycle
+        self.rested(t) && demand && self.counter >= cycle
+    }
+
+    /// Red at least the minimum.
+    pub fn rested(&self, t: &Timings) -> bool {
+        self.colour == Colour::Red && self.age >= t.minimum_red
     }
 
     /// A green begins.

@@ -1,5 +1,5 @@
-//! Document 01 in plain Rust, with the preemption, the nearest cycle and the plans past midnight of document 02. `reference NAME` writes
-//! test inputs and what they should give:
+//! Document 01 in plain Rust, with the preemption, the nearest cycle, the plans past midnight and the bus bypass of document 02.
+//! `reference NAME` writes test inputs and what they should give:
 //!
 //! - `site-bounds stdin`, `site-bounds stdout`: the files of `crates/site_bounds`.
 //! - `call-cases stdin`, `call-cases stdout`: the files of `crates/call_cases`.
@@ -21,6 +21,11 @@
 //! - `timetable-cases stdout`: what `crates/timetable_cases` prints.
 //! - `timetable-files FOLDER`: the files that it reads.
 
+mod bypass;
+mod bypass_cases;
+mod bypass_mark_cases;
+mod bypass_steps;
+mod bypass_watch;
 mod calendar;
 mod call_cases;
 mod call_run;
@@ -37,6 +42,7 @@ mod poll;
 mod preemption;
 mod preemption_cases;
 mod random;
+mod random_calls;
 mod random_cases;
 mod random_replay;
 mod rate_sheet;

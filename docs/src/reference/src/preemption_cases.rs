@@ -8,7 +8,7 @@ use crate::random::Random;
 use crate::site::{bytes, Site, UNUSED};
 use crate::tick::{Input, KeptLane, State};
 use crate::tick_cases::{
-    counted, distinct, fixed, fresh, in_demand, short_timings, times, with_timings, Setting, DARK, DECIDE, GREEN, NONE, POLL, RESPONSIVE,
+    counted, distinct, fixed, fresh, in_demand, short_timings, times, with_timings, DARK, DECIDE, GREEN, NONE, POLL, RESPONSIVE,
 };
 use crate::wanted::Command;
 
@@ -266,45 +266,6 @@ fn longest_ways() -> Vec<Vec<u8>> {
 }
 
 // Random calls.
-
-/// The preemption calls of a random run: in every other run they come, last for a while and go.
-pub struct Calls {
-    /// Percent.
-    coming: u64,
-    maximum_premetering: u16,
-    /// Ticks of the present call that are still to come.
-    left: u16,
-}
-
-impl Calls {
-    /// Where they come, one comes with this chance at each step.
-    pub fn new(r: &mut Random, s: &Setting, coming: u64) -> Calls {
-        Calls { coming: r.pick(&[0, coming]), maximum_premetering: 600 * s.site.timings[12], left: 0 }
-    }
-
-    /// A tick, a moment, up to some hundred ticks, or longer than a pre-metering green may last.
-    fn length(&self, r: &mut Random) -> u16 {
-        match r.from(0, 9) {
-            0 | 1 => 1,
-            2..=4 => r.number(2, 30),
-            5..=8 => r.number(31, 400),
-            _ => self.maximum_premetering + r.number(1, 300),
-        }
-    }
-
-    /// The sample of the next ticks, and for how many of so many it stands.
-    pub fn next(&mut self, r: &mut Random, count: u16) -> (u16, u16) {
-        if self.left == 0 && r.percent(self.coming) {
-            self.left = self.length(r);
-        }
-        if self.left == 0 {
-            return (0, count);
-        }
-        let count = count.min(self.left);
-        self.left -= count;
-        (1, count)
-    }
-}
 
 /// A random site, and a call about the tick from which the way is longest; then what is wanted rules.
 pub fn aimed(r: &mut Random, k: u16) -> Vec<u8> {

@@ -3,24 +3,27 @@
 
 use crate::call_run::{from_power_up, timing, Op};
 use crate::cases;
-use crate::preemption_cases::{aimed, Calls};
+use crate::preemption_cases;
 use crate::random::Random;
+use crate::random_calls::{self, next_calls, Calls};
 use crate::site::{bytes, Site, TIMINGS, UNUSED};
 use crate::tick::{Input, State};
 use crate::tick_cases::{
     after, command, damage_input, fixed, jump, of_today, quiet, random_run, samples, setting, short_timings, strange_state,
-    strange_states, Setting,
+    strange_states, Setting, NONE,
 };
-use crate::wanted::lanes;
+use crate::wanted::{lanes, Command};
 
 /// Cases of each kind in one seed.
 const RUNS: u16 = 24;
 const BUSY: u16 = 8;
+const METERED: u16 = 16;
 const STRANGE: u16 = 24;
 const SPOILT: u16 = 40;
 const REFUSED: u16 = 16;
 const DAMAGED: u16 = 10;
 const AIMED: u16 = 12;
+const AIMED_BUSES: u16 = 24;
 const DECISIONS: usize = 5000;
 const FILES: usize = 5000;
 const TIMETABLES: usize = 40;
@@ -31,6 +34,20 @@ const TIMETABLES: usize = 40;
 pub fn any_setting(r: &mut Random, k: u16) -> Setting {
     let short = r.percent(75);
     setting(r, |r| if short { short_timings(r, k) } else { cases::timings(r) })
+}
+
+/// The shortest startup.
+pub fn soon_metering(r: &mut Random, k: u16) -> Setting {
+    let mut s = setting(r, |r| short_timings(r, k));
+    s.site.timings[7..12].fill(10);
+    s.site.timings[13] = 1;
+    s
+}
+
+/// Mostly a manual one to meter at a high rate; seldom any.
+pub fn steady_commands(r: &mut Random, s: &Setting) -> [Command; 2] {
+    let manual = if r.from(1, 500) > 1 { fixed(cases::rate_from(r, 900)) } else { command(r, s, 40) };
+    [manual, NONE]
 }
 
 fn any_site(r: &mut Random) -> Site {
@@ -102,7 +119,8 @@ pub fn sound_input(r: &mut Random, s: &Setting) -> Input {
     let mut input = quiet(if r.percent(75) { fixed(cases::rate_from(r, 150)) } else { command(r, s, 40) });
     input.clock = jump(r, s);
     samples(r, s, 6, &mut input);
-    input.preemption = r.percent(25) as u16;
+    input.preemption = r.percent(20) as u16;
+    input.bypass = r.percent(50) as u16;
     input
 }
 
@@ -163,7 +181,7 @@ fn any_write(r: &mut Random, s: &Setting) -> Op {
 // Spoilt sites.
 
 fn damage_timing(r: &mut Random) -> Op {
-    let i = r.from(0, 14) as usize;
+    let i = r.from(0, TIMINGS.len() as u64 - 1) as usize;
     let (low, high) = TIMINGS[i];
     let value = match r.from(0, 4) {
         0 => low.saturating_sub(1),
@@ -225,7 +243,7 @@ fn spoilt_sites(r: &mut Random, s: &Setting) -> Vec<Op> {
 /// Samples that change with every tick or two, up to a period's end and beyond.
 fn busy_run(r: &mut Random, s: &Setting) -> Vec<Op> {
     let mut input = sound_input(r, s);
-    let mut calls = Calls::new(r, s, 2);
+    let mut calls = [Calls::trucks(r, s, 1), Calls::buses(r, 4)];
     let mut ops = Vec::new();
     for _ in 0..650 {
         if r.percent(3) {
@@ -235,8 +253,7 @@ fn busy_run(r: &mut Random, s: &Setting) -> Vec<Op> {
             input.clock = jump(r, s);
         }
         let length = of_today(input.clock, r.number(1, 3));
-        let (preemption, count) = calls.next(r, length);
-        input.preemption = preemption;
+        let count = next_calls(r, &mut calls, length, &mut input);
         // at times many vehicles
         let few = r.pick(&[1, 6, 6]);
         samples(r, s, few, &mut input);
@@ -245,6 +262,28 @@ fn busy_run(r: &mut Random, s: &Setting) -> Vec<Op> {
     }
     ops.push(any_poll(r, s));
     ops
+}
+
+/// Metering soon and nearly all the time, with a bus now and then.
+fn metered_run(r: &mut Random, k: u16) -> Vec<u8> {
+    let s = soon_metering(r, k);
+    let mut input = Input { preemption: 0, bypass: 0, ..sound_input(r, &s) };
+    let mut calls = [Calls::trucks(r, &s, 1), Calls::buses(r, 15)];
+    let mut ops = Vec::new();
+    for _ in 0..250 {
+        input.commands = steady_commands(r, &s);
+        let length = of_today(input.clock, r.number(1, 8));
+        let count = next_calls(r, &mut calls, length, &mut input);
+        samples(r, &s, count, &mut input);
+        // seldom two vehicles in a row
+        if r.percent(50) {
+            input.passage = [0; 4];
+        }
+        ops.push(Op::Ticks(count, input));
+        input.clock = after(r, &s, input.clock, count);
+    }
+    ops.push(any_poll(r, &s));
+    from_power_up(&bytes(&s.site), &ops)
 }
 
 pub fn call_cases(seed: u64) -> Vec<Vec<u8>> {
@@ -258,7 +297,9 @@ pub fn call_cases(seed: u64) -> Vec<Vec<u8>> {
         let s = any_setting(&mut r, k);
         out.push(strange_states(&mut r, &s));
     }
-    out.extend((0..AIMED).map(|k| aimed(&mut r, 7 * k)));
+    out.extend((0..METERED).map(|k| metered_run(&mut r, 5 * k)));
+    out.extend((0..AIMED).map(|k| preemption_cases::aimed(&mut r, 7 * k)));
+    out.extend((0..AIMED_BUSES).map(|k| random_calls::aimed(&mut r, 7 * k)));
     let kinds: [(u16, fn(&mut Random, &Setting) -> Vec<Op>); 4] =
         [(BUSY, busy_run), (SPOILT, spoilt_states), (REFUSED, refused_inputs), (DAMAGED, spoilt_sites)];
     for (many, ops) in kinds {

@@ -2,9 +2,9 @@
 //! are damaged at times.
 
 use crate::periods::halves;
-use crate::preemption_cases::Calls;
 use crate::random::Random;
-use crate::random_cases::{any_setting, damaged_file, sound_input};
+use crate::random_calls::{next_calls, Calls};
+use crate::random_cases::{any_setting, damaged_file, soon_metering, sound_input, steady_commands};
 use crate::replay::{self, Replayed};
 use crate::row;
 use crate::site::bytes;
@@ -15,6 +15,7 @@ use crate::wanted::lanes;
 
 /// Runs of each kind in one seed.
 const LONG: u16 = 6;
+const METERED: u16 = 6;
 const SHORT: u16 = 60;
 
 pub struct Run {
@@ -37,7 +38,7 @@ fn words(input: &Input, n: usize, m: usize) -> Vec<Vec<u8>> {
 /// So many ticks, a tenth apart, over midnight too, but for a jump now and then.
 fn inputs(r: &mut Random, s: &Setting, many: usize) -> Vec<Input> {
     let mut input = sound_input(r, s);
-    let mut calls = Calls::new(r, s, 1);
+    let mut calls = [Calls::trucks(r, s, 1), Calls::buses(r, 3)];
     let mut out = Vec::new();
     for _ in 0..many {
         if r.percent(2) {
@@ -47,12 +48,31 @@ fn inputs(r: &mut Random, s: &Setting, many: usize) -> Vec<Input> {
             input.clock = jump(r, s);
         }
         samples(r, s, 2, &mut input);
-        (input.preemption, _) = calls.next(r, 1);
+        next_calls(r, &mut calls, 1, &mut input);
         let mut sent = input;
         if r.percent(2) {
             damage_input(r, s, &mut sent);
         }
         out.push(sent);
+        input.clock = after(r, s, input.clock, 1);
+    }
+    out
+}
+
+/// The same where metering is wanted nearly all the time, with a bus now and then.
+fn metered_inputs(r: &mut Random, s: &Setting, many: usize) -> Vec<Input> {
+    let mut input = sound_input(r, s);
+    let mut calls = [Calls::trucks(r, s, 0), Calls::buses(r, 3)];
+    let mut out = Vec::new();
+    for _ in 0..many {
+        input.commands = steady_commands(r, s);
+        samples(r, s, 2, &mut input);
+        // seldom a vehicle
+        if r.percent(80) {
+            input.passage = [0; 4];
+        }
+        next_calls(r, &mut calls, 1, &mut input);
+        out.push(input);
         input.clock = after(r, s, input.clock, 1);
     }
     out
@@ -153,6 +173,13 @@ fn run(r: &mut Random, k: u16, ticks: usize) -> Run {
     Run { file, ticks: text(r, &s, &inputs) }
 }
 
+fn metered_run(r: &mut Random, k: u16) -> Run {
+    let s = soon_metering(r, k);
+    let ticks = r.from(200, 700) as usize;
+    let inputs = metered_inputs(r, &s, ticks);
+    Run { file: bytes(&s.site), ticks: text(r, &s, &inputs) }
+}
+
 pub fn runs(seed: u64) -> Vec<Run> {
     let mut r = Random::new(seed);
     let mut out = Vec::new();
@@ -162,6 +189,7 @@ pub fn runs(seed: u64) -> Vec<Run> {
             out.push(run(&mut r, k, ticks));
         }
     }
+    out.extend((0..METERED).map(|k| metered_run(&mut r, 5 * k)));
     out
 }
 
@@ -174,7 +202,8 @@ pub fn answer(run: &Run, tally: &mut Tally) -> Replayed {
     tally.count("replays that end at a line that is no tick", said.output.contains(" is no tick: ") as u64);
     tally.count("replays with something refused", !said.explanation.is_empty() as u64);
     tally.count("replays", 1);
-    said.watch.count(tally);
+    said.preemptions.count(tally);
+    said.bypasses.count(tally);
     said.in_force.count("replayed ticks", tally);
     said.in_force.count_midnights("replayed ticks", tally);
     said

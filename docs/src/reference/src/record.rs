@@ -3,7 +3,7 @@
 use crate::site::{self, Site};
 
 /// How many numbers each section has room for, and how many one of its count stands for.
-const ROOMS: [(usize, usize); 4] = [(15, 1), (16 * 5, 5), (16 * 4, 4), (24 * 5, 5)];
+const ROOMS: [(usize, usize); 4] = [(17, 1), (16 * 5, 5), (16 * 4, 4), (24 * 5, 5)];
 
 #[derive(Clone, Debug, PartialEq)]
 struct Section {
@@ -27,7 +27,7 @@ impl Record {
         Record(std::array::from_fn(section))
     }
 
-    /// Sets a section's number at a place from 1, or at 0 its count. The timings' count is always 15, and is not kept.
+    /// Sets a section's number at a place from 1, or at 0 its count. The timings' count is always 17, and is not kept.
     pub fn set(&mut self, section: u16, place: u16, value: u16) {
         let Some(kept) = self.0.get_mut(section as usize) else {
             return;

@@ -4,7 +4,7 @@
 use crate::call_run::{from_power_up, payload, Op};
 use crate::files::{longest, site_a, site_with_rows};
 use crate::output::ROOM;
-use crate::site::{bytes, Site, TIMINGS, UNUSED};
+use crate::site::{bytes, timing_range, Site, TIMINGS, UNUSED};
 use crate::tick::State;
 use crate::tick_cases::{counted, fixed, fresh, in_demand, DECIDE, POLL};
 
@@ -21,14 +21,14 @@ fn calls_on(section: u16, place: u16, value: u16) -> Vec<Op> {
     [&[Op::Damage(section, place, value)], &calls()[..], &powered].concat()
 }
 
-/// Each timing just below its range and just above it; the maximum green's low end is the minimum green.
+/// Each timing just below its range and just above it.
 fn timing_damages(site: &Site) -> Vec<(u16, u16, u16)> {
-    let sides = |(i, (low, high)): (usize, (u16, u16))| {
-        let low = if i == 4 { site.timings[3] } else { low };
+    let sides = |i: usize| {
+        let (low, high) = timing_range(&site.timings, i);
         let values = low.checked_sub(1).into_iter().chain([high + 1]);
         values.map(move |value| (0, i as u16 + 1, value))
     };
-    TIMINGS.into_iter().enumerate().flat_map(sides).collect()
+    (0..TIMINGS.len()).flat_map(sides).collect()
 }
 
 /// A list of a site: its section's number, how many numbers a row has, how many rows there are and how many there may be.
@@ -67,13 +67,13 @@ fn row_by_row() -> Vec<u8> {
     for place in 11..=15 {
         ops.extend([Op::Damage(3, place, 0), Op::Write(600)]);
     }
-    ops.extend([Op::Damage(3, 0, 2), Op::Write(600), Op::Write(130), Op::Write(129)]);
+    ops.extend([Op::Damage(3, 0, 2), Op::Write(600), Op::Write(134), Op::Write(133)]);
     for (place, value) in [(11, 2), (12, UNUSED), (13, 1), (14, UNUSED), (15, 150)] {
         ops.extend([Op::Damage(3, place, value), Op::Write(600)]);
     }
-    ops.extend([Op::Damage(3, 0, 3), Op::Write(600), Op::Write(140), Op::Write(139)]);
+    ops.extend([Op::Damage(3, 0, 3), Op::Write(600), Op::Write(144), Op::Write(143)]);
     // places that there are not
-    ops.extend([Op::Damage(0, 0, 14), Op::Damage(0, 16, 1), Op::Damage(1, 81, 1), Op::Damage(2, 65, 1), Op::Damage(3, 121, 1)]);
+    ops.extend([Op::Damage(0, 0, 15), Op::Damage(0, 18, 1), Op::Damage(1, 81, 1), Op::Damage(2, 65, 1), Op::Damage(3, 121, 1)]);
     ops.extend([Op::Damage(4, 1, 1), Op::Write(600)]);
     // the same of a spoilt record
     ops.extend([Op::Damage(0, 1, 0), Op::Damage(4, 1, 1), Op::Write(600)]);

@@ -1,8 +1,9 @@
 //! What the replay program prints: a site, and ticks as lines of numbers.
 
+use crate::bypass_watch;
 use crate::diagnosis;
 use crate::periods::halves;
-use crate::preemption::Watch;
+use crate::preemption;
 use crate::row;
 use crate::site::{self, Site};
 use crate::tally::InForce;
@@ -17,12 +18,13 @@ use crate::wanted::{half_goes_up, lanes};
 pub struct Replayed {
     pub output: String,
     pub explanation: String,
-    pub watch: Watch,
+    pub preemptions: preemption::Watch,
+    pub bypasses: bypass_watch::Watch,
     pub halves: u64,
     pub in_force: InForce,
 }
 
-const HEADING: &str = "tick refusal interval age lanes lower sign day entry source level wish rate cycle released\n";
+const HEADING: &str = "tick refusal interval age lanes lower sign day entry source level wish rate cycle released bypass\n";
 
 // A line of input.
 
@@ -67,7 +69,8 @@ fn number(i: usize, word: &[u8]) -> Result<u32, String> {
     Ok(std::str::from_utf8(word).unwrap().parse().unwrap())
 }
 
-/// The tick of a line, or why it is none: clock, demand and passage of each lane, the mainline lanes' samples, preemption, two commands.
+/// The tick of a line, or why it is none: clock, demand and passage of each lane, the mainline lanes' samples, preemption and bypass, two
+/// commands.
 fn input(site: &Site, line: &[u8]) -> Result<Input, String> {
     let (n, m) = lanes(site);
     let numbers = words(line).into_iter().enumerate().map(|(i, word)| number(i + 1, word)).collect::<Result<Vec<u32>, String>>()?;
@@ -86,9 +89,9 @@ fn input(site: &Site, line: &[u8]) -> Result<Input, String> {
 
 fn decided(a: &Answer) -> String {
     if a.refusal != 0 {
-        return "- - - - - - - -".to_string();
+        return "- - - - - - - - -".to_string();
     }
-    format!("{} {} {}", text::decision(&a.decision), a.cycle, a.released)
+    format!("{} {} {} {}", text::decision(&a.decision), a.cycle, a.released, a.bypass.word())
 }
 
 /// The tick's line, and the poll record's where a period was completed.
@@ -131,7 +134,8 @@ fn run(site: &Site, text: &[u8]) -> Replayed {
             said.explanation = tick_diagnosis::line(answer.refusal, &input, lanes(site), i + 1);
         }
         if answer.refusal == 0 {
-            said.watch.tick(site, input.preemption, answer.state.interval);
+            said.preemptions.tick(site, input.preemption, answer.state.interval);
+            said.bypasses.tick(bypass_watch::Tick { site, before: &state, input: &input, answer: &answer }, true);
         }
         said.halves += half_goes_up(site, answer.decision.wish) as u64;
         said.in_force.note(input.clock, &answer.decision);

@@ -13,13 +13,14 @@ pub struct Line {
     pub lanes: Vec<[u32; 2]>,
     pub mainline: Vec<[u32; 4]>,
     pub preemption: u32,
+    pub bypass: u32,
     pub commands: [[u32; 3]; 2],
 }
 
 impl Line {
     pub fn text(&self) -> String {
         let lanes = self.lanes.as_flattened().iter().chain(self.mainline.as_flattened());
-        let numbers = self.clock.iter().chain(lanes).chain([&self.preemption]).chain(self.commands.as_flattened());
+        let numbers = self.clock.iter().chain(lanes).chain([&self.preemption, &self.bypass]).chain(self.commands.as_flattened());
         numbers.map(u32::to_string).collect::<Vec<_>>().join(" ") + "\n"
     }
 }
@@ -32,6 +33,7 @@ pub fn plain(i: u32) -> Line {
         lanes: vec![[1, (i % 40 == 7) as u32], [(i / 100 % 2 == 0) as u32, (i % 55 == 9) as u32]],
         mainline: vec![[1, 20 + i % 60, (i % 30 == 0) as u32, if i % 30 == 0 { 60 + i % 50 } else { 0 }]],
         preemption: 0,
+        bypass: 0,
         commands: [[0, 0, 0]; 2],
     }
 }
@@ -44,23 +46,37 @@ pub fn ticks() -> String {
     lines[450..480].iter_mut().for_each(|line| line.commands[1] = [4, 300, 2]);
     // a fire truck: closing, shutdown red, pre-metering green, and the startup begins when it has gone
     lines[455..560].iter_mut().for_each(|line| line.preemption = 1);
+    // buses: one waits for the other lane, runs and meets the timeout; one passes; one is cut off by the fire truck
+    for called in [312..345, 384..420, 445..470] {
+        lines[called].iter_mut().for_each(|line| line.bypass = 1);
+    }
+    lines[411].lanes[1][1] = 1;
     // on a holiday in the evening the plan's dark
     lines[600..].iter_mut().for_each(|line| line.clock = [2024, 7, 4, 702_000 + line.clock[3] % 100]);
-    // refused: the date, the tenth, a sample of each kind, a command, and preemption while a call is on
+    // refused: the date, the tenth, a sample of each kind, a command, and each call, of the fire truck also while it is on
     lines[350].clock[1] = 13;
     lines[351].clock[3] = u32::MAX;
     lines[352].lanes[1][0] = 2;
     lines[353].mainline[0][3] = 65535;
     lines[354].commands[1] = [5, 0, 0];
     lines[355].preemption = 65535;
+    lines[356].bypass = 2;
     lines[530].preemption = 2;
     lines.iter().map(Line::text).collect::<String>() + "end\n"
 }
 
-/// A site of four metered and six mainline lanes, in fractional offset.
+/// The site with rows of every kind, whose lane 2 is the priority lane, for 3 s.
+fn plain_site() -> Site {
+    let mut site = site_with_rows();
+    (site.timings[15], site.timings[16]) = (2, 3);
+    site
+}
+
+/// A site of four metered and six mainline lanes, in fractional offset, with priority lane 3.
 fn wide_site() -> Site {
     let mut site = site_a();
     (site.timings[0], site.timings[1], site.timings[14]) = (4, 1, 6);
+    (site.timings[15], site.timings[16]) = (3, 1);
     site.entries = vec![[255, 0, 2, 900, 0]];
     site
 }
@@ -77,6 +93,8 @@ pub fn wide(i: u32) -> Line {
         mainline: (0..6).map(mainline).collect(),
         // from the period's last tick but one on
         preemption: (i >= 298) as u32,
+        // before metering is entered, with the 291st tick
+        bypass: (i >= 280) as u32,
         commands: [[0; 3]; 2],
     }
 }
@@ -86,21 +104,23 @@ fn wide_ticks() -> String {
     (0..302).map(|i| wide(i).text()).collect()
 }
 
-/// A site of one metered and one mainline lane.
+/// A site of one metered and one mainline lane, with buses and no timeout.
 fn narrow_site() -> Site {
     let mut site = site_a();
-    (site.timings[0], site.timings[14]) = (1, 1);
+    (site.timings[0], site.timings[14], site.timings[15]) = (1, 1, 1);
     site.entries = vec![[255, 0, 2, 900, 0]];
     site
 }
 
-/// So many ticks there, with one call, that more than two blocks of output are written, of 65,536 bytes less a line or two each.
+/// So many ticks there, with one fire truck and some buses, that more than two blocks of output are written, of 65,536 bytes less a line or
+/// two each.
 fn long_ticks() -> String {
     let line = |i: u32| Line {
         clock: [2024, 2, 29, 36_000 + i],
         lanes: vec![[1, (i % 50 == 20) as u32]],
         mainline: vec![[1, i % 7, (i % 90 == 0) as u32, if i % 90 == 0 { 80 } else { 0 }]],
         preemption: (1500..1700).contains(&i) as u32,
+        bypass: (i / 100 % 3 == 1) as u32,
         commands: [[0; 3]; 2],
     };
     (0..2700).map(|i| line(i).text()).collect()
@@ -144,7 +164,7 @@ fn sites() -> Vec<(&'static str, Vec<u8>)> {
     let mut green_101 = bytes(&site_with_rows());
     green_101[9] = 101;
     vec![
-        ("site.bin", bytes(&site_with_rows())),
+        ("site.bin", bytes(&plain_site())),
         ("wide.bin", bytes(&wide_site())),
         ("narrow.bin", bytes(&narrow_site())),
         ("refused.bin", green_101),

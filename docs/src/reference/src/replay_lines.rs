@@ -2,8 +2,8 @@
 
 use crate::replay_files::{plain, Run};
 
-/// How many numbers are wanted; word 13 is the preemption.
-const WANTED: usize = 19;
+/// How many numbers are wanted; word 13 is the preemption, word 14 the bypass.
+const WANTED: usize = 20;
 
 /// A tick's line, without its newline.
 fn line() -> String {
@@ -81,6 +81,7 @@ fn no_numbers() -> Vec<Run> {
         between("plus.txt", format!("+{line}")),
         between("minus.txt", with(&[(6, "-1")])),
         between("preemption_letter.txt", with(&[(13, "o")])),
+        between("bypass_letter.txt", with(&[(14, "o")])),
         between("point.txt", with(&[(10, "20.0")])),
         between("tab.txt", line.replace("2024 ", "2024\t")),
         between("tab_behind.txt", format!("{line}\t")),
@@ -109,6 +110,7 @@ fn above() -> Vec<Run> {
         between("sample_65536.txt", with(&[(5, "65536")])),
         between("sample_4294967296.txt", with(&[(5, "4294967296")])),
         between("preemption_65536.txt", with(&[(13, "65536")])),
+        between("bypass_65536.txt", with(&[(14, "65536")])),
         between("last_number_65536.txt", with(&[(WANTED, "65536")])),
         between("leading_zeros_65536.txt", with(&[(2, "000000065536")])),
         between("tenth_4294967296.txt", with(&[(4, "4294967296")])),
@@ -130,6 +132,7 @@ fn empty() -> Vec<Run> {
         between("blanks_before.txt", format!("   {line}")),
         between("two_blanks.txt", line.replace("2024 ", "2024  ")),
         between("two_blanks_before_preemption.txt", with(&[(13, " 0")])),
+        between("two_blanks_before_bypass.txt", with(&[(14, " 0")])),
         between("two_blanks_before_last_word.txt", with(&[(WANTED, " 0")])),
         between("two_blanks_and_carriage_returns.txt", format!("{line}  \r\r")),
         last("two_blanks_no_newline.txt", &with(&[(WANTED, " 0")])),

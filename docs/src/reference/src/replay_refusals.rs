@@ -40,6 +40,9 @@ fn samples() -> Vec<Run> {
     let preemption = |site, name, line, value: u32| {
         run(site, name, line, |line: &mut Line| line.preemption = 1, move |line: &mut Line| line.preemption = value)
     };
+    let bypass = |site, name, line, value: u32| {
+        run(site, name, line, |line: &mut Line| line.bypass = 1, move |line: &mut Line| line.bypass = value)
+    };
     vec![
         metered("site.bin", "demand_2.txt", plain, 1, 0),
         metered("site.bin", "passage_2.txt", plain, 2, 1),
@@ -51,6 +54,8 @@ fn samples() -> Vec<Run> {
         mainline("wide.bin", "mainline_lane_6_speed_251.txt", wide, 6, 3, 250),
         preemption("site.bin", "preemption_2.txt", plain, 2),
         preemption("wide.bin", "preemption_65535.txt", wide, 65535),
+        bypass("site.bin", "bypass_2.txt", plain, 2),
+        bypass("wide.bin", "bypass_65535.txt", wide, 65535),
     ]
 }
 
@@ -85,7 +90,7 @@ fn first_of_many() -> Vec<Run> {
         line.clock = [2024, 2, 30, 864_000];
         line.lanes[1] = [2, 2];
         line.mainline[0] = [2, 101, 2, 251];
-        line.preemption = 2;
+        (line.preemption, line.bypass) = (2, 2);
         line.commands = [[3, 149, 1], [5, 1, 1]];
     };
     let good = |_: &mut Line| {};
@@ -122,6 +127,20 @@ fn first_of_many() -> Vec<Run> {
                 line.mainline[0] = [1, 100, 1, 250];
             }),
         ),
+        run(
+            "site.bin",
+            "bypass_and_commands.txt",
+            plain,
+            good,
+            then(|line| {
+                line.clock = [2024, 2, 29, 0];
+                line.lanes[1] = [1, 1];
+                line.mainline[0] = [1, 100, 1, 250];
+                line.preemption = 1;
+            }),
+        ),
+        run("site.bin", "tenth_and_bypass.txt", plain, good, |line| (line.clock[3], line.bypass) = (864_000, 2)),
+        run("wide.bin", "mainline_lane_6_and_bypass.txt", wide, good, |line| (line.mainline[5][3], line.bypass) = (251, 2)),
         run("site.bin", "tenth_and_preemption.txt", plain, good, |line| (line.clock[3], line.preemption) = (864_000, 2)),
         run("wide.bin", "mainline_lane_6_and_preemption.txt", wide, good, |line| (line.mainline[5][3], line.preemption) = (251, 2)),
         run("wide.bin", "mainline_lanes_3_and_5.txt", wide, good, |line| {

@@ -1,14 +1,14 @@
 //! A tick as one row of numbers: year, month, day, the tenth's high and low half; demand and passage of each metered lane; working,
-//! occupied, vehicles and speed of each mainline lane; the calls, which are preemption alone; kind, rate and table of the manual command,
-//! then of the communications command.
+//! occupied, vehicles and speed of each mainline lane; the calls, which are preemption and bypass; kind, rate and table of the manual
+//! command, then of the communications command.
 
 use crate::calendar::{Clock, Date};
 use crate::periods::{halves, Sample};
 use crate::tick::Input;
 use crate::wanted::Command;
 
-/// Preemption.
-const CALLS: usize = 1;
+/// Preemption and bypass.
+const CALLS: usize = 2;
 
 /// How many numbers the row of n metered and m mainline lanes has.
 pub fn size(n: usize, m: usize) -> usize {
@@ -22,7 +22,7 @@ pub fn numbers(input: &Input, n: usize, m: usize) -> Vec<u16> {
     out.extend(halves(tenth));
     out.extend((0..n).flat_map(|i| [input.demand[i], input.passage[i]]));
     out.extend(input.mainline[..m].iter().flat_map(|s| [s.working, s.occupied, s.vehicles, s.speed]));
-    out.extend([input.preemption]);
+    out.extend([input.preemption, input.bypass]);
     out.extend(input.commands.iter().flat_map(|c| [c.kind, c.rate, c.table]));
     out
 }
@@ -44,7 +44,7 @@ pub fn input(row: &[u16], n: usize, m: usize) -> Input {
     for (sample, lane) in input.mainline.iter_mut().zip(mainline.chunks(4)) {
         *sample = Sample { working: lane[0], occupied: lane[1], vehicles: lane[2], speed: lane[3] };
     }
-    input.preemption = calls[0];
+    (input.preemption, input.bypass) = (calls[0], calls[1]);
     for (command, words) in input.commands.iter_mut().zip(commands.chunks(3)) {
         *command = Command { kind: words[0], rate: words[1], table: words[2] };
     }

@@ -14,7 +14,7 @@ const SEED: u32 = 1;
 /// Four lanes and six mainline lanes; metering is wanted all day, most of it responsive, and some level is always met.
 pub fn site() -> Site {
     Site {
-        timings: vec![4, 0, 2, 20, 60, 30, 25, 100, 50, 30, 50, 50, 15, 10, 6],
+        timings: vec![4, 0, 2, 20, 60, 30, 25, 100, 50, 30, 50, 50, 15, 10, 6, 0, 0],
         entries: vec![
             [127, 0, 2, 900, 0],
             [127, 1, 3, 900, 1],

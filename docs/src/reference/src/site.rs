@@ -17,8 +17,8 @@ pub struct Refused {
 
 pub const UNUSED: u16 = 65535;
 
-/// The timings' ranges in the paper's order; the maximum green's low end is raised to the minimum green.
-pub const TIMINGS: [(u16, u16); 15] = [
+/// The timings' ranges in the paper's order, at their widest.
+pub const TIMINGS: [(u16, u16); 17] = [
     (1, 4),
     (0, 1),
     (1, 3),
@@ -34,11 +34,22 @@ pub const TIMINGS: [(u16, u16); 15] = [
     (1, 60),
     (1, 600),
     (1, 6),
+    (0, 4),
+    (0, 255),
 ];
 
-pub fn timing_ok(row: &[u16], i: usize) -> bool {
+/// The range of timing i given those to its left: the maximum green is at least the minimum green, the priority lane one of the lanes.
+pub fn timing_range(row: &[u16], i: usize) -> (u16, u16) {
     let (low, high) = TIMINGS[i];
-    let low = if i == 4 { row[3] } else { low };
+    match i {
+        4 => (row[3], high),
+        15 => (low, row[0]),
+        _ => (low, high),
+    }
+}
+
+pub fn timing_ok(row: &[u16], i: usize) -> bool {
+    let (low, high) = timing_range(row, i);
     (low..=high).contains(&row[i])
 }
 
@@ -99,7 +110,7 @@ pub fn level_ok(row: &[u16], i: usize) -> bool {
 /// Section 0 timings, 1 plan entries, 2 holidays, 3 levels.
 pub fn count_ok(section: usize, count: u16) -> bool {
     match section {
-        0 => count == 15,
+        0 => count as usize == TIMINGS.len(),
         1 | 2 => count <= 16,
         _ => count <= 24,
     }
@@ -163,7 +174,7 @@ impl Reader<'_> {
 
 pub fn read(file: &[u8]) -> Result<Site, Refused> {
     let mut r = Reader { file, at: 0 };
-    let timings = r.section(0, 15)?.remove(0);
+    let timings = r.section(0, TIMINGS.len())?.remove(0);
     let entries = r.section(1, 5)?;
     let holidays = r.section(2, 4)?;
     let levels = r.section(3, 5)?;

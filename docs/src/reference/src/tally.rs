@@ -15,6 +15,12 @@ impl Tally {
         }
     }
 
+    pub fn add(&mut self, other: &Tally) {
+        for (what, many) in &other.0 {
+            self.count(what, *many);
+        }
+    }
+
     /// What a call or a file was refused for; 0 is nothing. A spoilt site or state is counted where it is given.
     pub fn refused(&mut self, refusal: u8) {
         let what = match refusal {

@@ -1,6 +1,7 @@
-//! The state and one tick of document 01, with the preemption of document 02: its checks, then counts, what is wanted, group interval,
-//! lane intervals, release.
+//! The state and one tick of document 01, with the preemption and the bus bypass of document 02: its checks, then counts, what is wanted,
+//! group interval, bypass, lane intervals, release.
 
+use crate::bypass::{Bypass, Phase};
 use crate::calendar::{clock_ok, Clock};
 use crate::group::{Group, Indications, Interval, Wanted, OLDEST};
 use crate::lanes::{Colour, Lane, LONGEST, MOST_PASSAGES};
@@ -30,6 +31,7 @@ pub struct State {
     pub lanes: [KeptLane; 4],
     pub offset: u16,
     pub last: u16,
+    pub bypass: Bypass,
     pub periods: Periods,
 }
 
@@ -40,6 +42,7 @@ fn keep(group: &Group, periods: Periods) -> State {
         lanes: [KeptLane::default(); 4],
         offset: group.offset,
         last: group.last as u16,
+        bypass: group.bypass,
         periods,
     };
     for (kept, lane) in state.lanes.iter_mut().zip(&group.lanes) {
@@ -61,6 +64,7 @@ fn group_of(state: &State, n: usize) -> Group {
         lanes: state.lanes[..n].iter().map(lane).collect(),
         offset: state.offset,
         last: state.last as usize,
+        bypass: state.bypass,
     }
 }
 
@@ -86,6 +90,7 @@ pub fn state_spoilt(site: &Site, state: &State) -> bool {
         || !(1..=n as u16).contains(&state.last)
         || state.lanes[..n].iter().any(|lane| lane_spoilt(lane, interval.runs_lanes()))
         || state.lanes[n..].iter().any(|lane| *lane != KeptLane::default())
+        || state.bypass.spoilt(interval == Interval::Metering, site.timings[15])
         || state.periods.spoilt(n, m)
 }
 
@@ -97,6 +102,7 @@ pub struct Input {
     pub passage: [u16; 4],
     pub mainline: [Sample; 6],
     pub preemption: u16,
+    pub bypass: u16,
     /// Manual and communications.
     pub commands: [Command; 2],
 }
@@ -110,6 +116,7 @@ impl Input {
             passage: [0; 4],
             mainline: [Sample::default(); 6],
             preemption: 0,
+            bypass: 0,
             commands: [Command::default(); 2],
         }
     }
@@ -122,7 +129,7 @@ fn sample_ok(s: &Sample) -> bool {
 /// 9, the other way round: all in range, and lanes beyond n or m are not looked at.
 fn samples_ok(site: &Site, input: &Input) -> bool {
     let (n, m) = lanes(site);
-    let bits = input.demand[..n].iter().chain(&input.passage[..n]).chain([&input.preemption]);
+    let bits = input.demand[..n].iter().chain(&input.passage[..n]).chain([&input.preemption, &input.bypass]);
     bits.into_iter().all(|sample| *sample <= 1) && input.mainline[..m].iter().all(sample_ok)
 }
 
@@ -161,13 +168,14 @@ pub struct Answer {
     pub cycle: u16,
     /// The lane released, from 1, or 0.
     pub released: usize,
+    pub bypass: Phase,
 }
 
 pub const NOTHING_DECIDED: Decision = Decision { day: None, entry: 0, days_ago: 0, source: "plan", level: 0, wish: Wish::Dark };
 
 /// The state as it came, and nothing decided.
 fn refused(refusal: u8, indications: Indications, state: &State) -> Answer {
-    Answer { refusal, state: *state, indications, decision: NOTHING_DECIDED, cycle: 0, released: 0 }
+    Answer { refusal, state: *state, indications, decision: NOTHING_DECIDED, cycle: 0, released: 0, bypass: Phase::None }
 }
 
 fn accepted(site: &Site, state: &State, input: &Input) -> Answer {
@@ -185,8 +193,16 @@ fn accepted(site: &Site, state: &State, input: &Input) -> Answer {
     };
 
     let mut group = group_of(state, n);
-    let wanted = Wanted { wish: decision.wish, preemption: input.preemption == 1, cycle, demand, passage };
-    let released = group.tick(&Timings::of(site), &wanted);
+    let wanted = Wanted {
+        wish: decision.wish,
+        preemption: input.preemption == 1,
+        bypass: input.bypass == 1,
+        cycle,
+        demand,
+        passage,
+    };
+    let timings = Timings::of(site);
+    let released = group.tick(&timings, &wanted);
     if let Some(lane) = released {
         periods.green_begun(lane);
     }
@@ -198,6 +214,7 @@ fn accepted(site: &Site, state: &State, input: &Input) -> Answer {
         decision,
         cycle: cycle.unwrap_or(0),
         released: released.unwrap_or(0),
+        bypass: group.bypass_phase(&timings),
     }
 }
 
@@ -252,19 +269,21 @@ pub fn write(site: Option<&Site>, out: &mut [u8]) -> Result<usize, u8> {
 
 // The state as a row of numbers.
 
-/// Group and lanes: interval, age, colours, ages, counters, passage counts, offset, last.
+/// Group and lanes: interval, age, colours, ages, counters, passage counts, offset, last; the bypass kept 0 or 1, its mark 0
+/// or 1, its timer.
 fn group_numbers(state: &State) -> Vec<u16> {
     let mut out = vec![state.interval, state.age];
     out.extend(state.lanes.iter().map(|lane| lane.colour));
     out.extend(state.lanes.iter().map(|lane| lane.age));
     out.extend(state.lanes.iter().map(|lane| lane.counter));
     out.extend(state.lanes.iter().map(|lane| lane.passages));
-    out.extend([state.offset, state.last]);
+    let Bypass { kept, mark, timer } = state.bypass;
+    out.extend([state.offset, state.last, kept as u16, mark as u16, timer]);
     out
 }
 
 impl State {
-    /// The state in 98 numbers.
+    /// The state in 101 numbers.
     pub fn numbers(&self) -> Vec<u32> {
         let wide = |words: Vec<u16>| words.into_iter().map(u32::from);
         let p = &self.periods;
@@ -276,7 +295,7 @@ impl State {
         out
     }
 
-    /// The state in 111 two-byte numbers: speed sums and serial are two each, high half first.
+    /// The state in 114 two-byte numbers: speed sums and serial are two each, high half first.
     pub fn words(&self) -> Vec<u16> {
         let p = &self.periods;
         let mut out = group_numbers(self);

@@ -2,15 +2,16 @@
 //! The cases are made without the rules, but for the cycle that some aim at, which is the rate sheet's: a change of another rule changes
 //! what they print, never the cases.
 
+use crate::bypass::{Bypass, LONGEST_TIMER};
 use crate::calendar::{later, shifted, Clock, Date, TENTHS};
 use crate::call_run::{from_power_up, timing, Op};
 use crate::cases;
 use crate::files::site_a;
 use crate::periods::{Counts, Sample};
-use crate::preemption_cases::Calls;
 use crate::random::Random;
+use crate::random_calls::{next_calls, Calls};
 use crate::rate_sheet::nearest;
-use crate::site::{bytes, Site, TIMINGS, UNUSED};
+use crate::site::{bytes, timing_range, Site, TIMINGS, UNUSED};
 use crate::tick::{Input, KeptLane, State};
 use crate::wanted::Command;
 
@@ -40,6 +41,7 @@ pub fn quiet(manual: Command) -> Input {
         passage: [0; 4],
         mainline: [Sample { working: 1, ..Sample::default() }; 6],
         preemption: 0,
+        bypass: 0,
         commands: [manual, NONE],
     }
 }
@@ -84,13 +86,13 @@ fn site_a_runs() -> Vec<Vec<u8>> {
     ]
 }
 
-/// 37, 38 and 39 bytes, and a minimum green of 101.
+/// 41, 42 and 43 bytes, and a minimum green of 101.
 fn file_lengths() -> Vec<Vec<u8>> {
     let file = bytes(&site_a());
     let longer = [&file[..], &[0]].concat();
     let green = bytes(&with_timings(&[(3, 101)]));
     let tick = vec![Op::Ticks(1, quiet(NONE))];
-    [&file[..37], &file, &longer, &green].into_iter().map(|f| from_power_up(f, &tick)).collect()
+    [&file[..41], &file, &longer, &green].into_iter().map(|f| from_power_up(f, &tick)).collect()
 }
 
 /// Thanksgiving and the day after, the final Monday of May, and the days about them; green on holidays.
@@ -522,8 +524,9 @@ fn spoilt_states() -> Vec<Vec<u8>> {
 /// Each timing on both sides of its ends: a tick, a poll and a power-up, then the file's site again.
 fn spoilt_sites() -> Vec<Vec<u8>> {
     let mut ops = Vec::new();
-    for (i, (low, high)) in TIMINGS.iter().enumerate() {
-        for value in [low.saturating_sub(1), *low, *high, high + 1, UNUSED] {
+    for i in 0..TIMINGS.len() {
+        let (low, high) = timing_range(&site_a().timings, i);
+        for value in [low.saturating_sub(1), low, high, high + 1, UNUSED] {
             ops.extend([timing(i, value), Op::Ticks(1, in_demand(fixed(600))), POLL, Op::Repair]);
         }
     }
@@ -555,7 +558,7 @@ fn spoilt_sites() -> Vec<Vec<u8>> {
     ];
     // power-up looks at every timing
     let beyond = |i: usize| [timing(i, TIMINGS[i].1 + 1), Op::PowerUp, Op::Repair];
-    let powered = [(0..15).flat_map(beyond).collect(), vec![Op::PowerUp]].concat();
+    let powered = [(0..TIMINGS.len()).flat_map(beyond).collect(), vec![Op::PowerUp]].concat();
     [ops, zero, powered].iter().map(|ops| from_power_up(&bytes(&site_a()), ops)).collect()
 }
 
@@ -605,8 +608,9 @@ fn inputs_at_limits() -> Vec<Input> {
         put(&|x| x.mainline[j].vehicles = 2);
         put(&|x| x.mainline[j].speed = 251);
     }
-    for preemption in [0, 1, 2, 256, 257, UNUSED] {
-        put(&|x| x.preemption = preemption);
+    for call in [0, 1, 2, 256, 257, UNUSED] {
+        put(&|x| x.preemption = call);
+        put(&|x| x.bypass = call);
     }
     for working in [0, 1] {
         for (occupied, vehicles, speed) in
@@ -638,6 +642,11 @@ fn inputs_at_limits() -> Vec<Input> {
             x.clock.date.day += 31 * clock;
             x.preemption = 2 * sample;
             x.commands[0].kind += 5 * command;
+        });
+        put(&|x| {
+            x.clock.tenth += 864_000 * clock as u32;
+            x.bypass = 2 * sample;
+            x.commands[1].kind += 5 * command;
         });
     }
     out
@@ -782,6 +791,7 @@ pub fn short_timings(r: &mut Random, k: u16) -> Vec<u16> {
         }
     }
     row[4] = r.number(row[3], (row[3] + 30).min(100));
+    (row[15], row[16]) = cases::bypass_timings(r, row[0]);
     row
 }
 
@@ -878,14 +888,15 @@ pub fn samples(r: &mut Random, s: &Setting, count: u16, input: &mut Input) {
 fn damage_sample(r: &mut Random, s: &Setting, input: &mut Input) {
     let (n, m) = (s.site.timings[0], s.site.timings[14]);
     let (i, j) = (r.number(0, n - 1) as usize, r.number(0, m - 1) as usize);
-    match r.from(0, 6) {
+    match r.from(0, 7) {
         0 => input.demand[i] = r.pick(&[2, UNUSED]),
         1 => input.passage[i] = r.pick(&[2, 256]),
         2 => input.mainline[j].working = r.pick(&[2, 257]),
         3 => input.mainline[j].occupied = r.pick(&[101, UNUSED]),
         4 => input.mainline[j].vehicles = r.pick(&[2, UNUSED]),
         5 => input.mainline[j].speed = r.pick(&[251, UNUSED]),
-        _ => input.preemption = r.pick(&[2, 257, UNUSED]),
+        6 => input.preemption = r.pick(&[2, 257, UNUSED]),
+        _ => input.bypass = r.pick(&[2, 257, UNUSED]),
     }
 }
 
@@ -914,7 +925,7 @@ fn length(r: &mut Random) -> u16 {
 /// Something other than sound ticks, now and then.
 fn interruption(r: &mut Random, s: &Setting, input: &Input, ops: &mut Vec<Op>) {
     let mut bad = *input;
-    let i = r.from(0, 14) as usize;
+    let i = r.from(0, TIMINGS.len() as u64 - 1) as usize;
     match r.from(1, 100) {
         1..=5 => {
             damage_input(r, s, &mut bad);
@@ -938,7 +949,7 @@ fn interruption(r: &mut Random, s: &Setting, input: &Input, ops: &mut Vec<Op>) {
 pub fn random_run(r: &mut Random, s: &Setting) -> Vec<u8> {
     let mut input = quiet(fixed(1200));
     input.clock = jump(r, s);
-    let mut calls = Calls::new(r, s, 12);
+    let mut calls = [Calls::trucks(r, s, 12), Calls::buses(r, 30)];
     let mut ops = Vec::new();
     for _ in 0..r.from(25, 45) {
         if r.percent(25) {
@@ -948,8 +959,7 @@ pub fn random_run(r: &mut Random, s: &Setting) -> Vec<u8> {
             input.clock = jump(r, s);
         }
         let length = of_today(input.clock, length(r));
-        let (preemption, count) = calls.next(r, length);
-        input.preemption = preemption;
+        let count = next_calls(r, &mut calls, length, &mut input);
         samples(r, s, count, &mut input);
         interruption(r, s, &input, &mut ops);
         ops.push(Op::Ticks(count, input));
@@ -994,6 +1004,13 @@ fn interval_limit(r: &mut Random, t: &[u16], interval: u16) -> u16 {
     }
 }
 
+/// Kept where it may be, its timer mostly about its end; a mark in any interval.
+fn strange_bypass(r: &mut Random, t: &[u16], interval: u16) -> Bypass {
+    let kept = interval == 7 && t[15] != 0 && r.percent(50);
+    let timer = if kept { about(r, 10 * t[16], LONGEST_TIMER) } else { 0 };
+    Bypass { kept, mark: r.percent(30), timer }
+}
+
 pub fn strange_state(r: &mut Random, t: &[u16], cycle: u16) -> State {
     let (n, m) = (t[0] as usize, t[14] as usize);
     let interval = r.pick(&[7, 7, 7, 7, 7, 7, 8, 8, 8, 0, 1, 2, 3, 4, 5, 6, 9]);
@@ -1004,6 +1021,7 @@ pub fn strange_state(r: &mut Random, t: &[u16], cycle: u16) -> State {
     }
     state.offset = about(r, cycle.div_ceil(t[0]), 720);
     state.last = r.number(1, t[0]);
+    state.bypass = strange_bypass(r, t, interval);
     if r.percent(30) {
         state.periods = cases::periods(r, n, m);
     } else {
@@ -1022,7 +1040,8 @@ pub fn strange_states(r: &mut Random, s: &Setting) -> Vec<u8> {
         input.clock = jump(r, s);
         let count = r.pick(&[1, 1, 2, 3, 40]);
         samples(r, s, count, &mut input);
-        input.preemption = r.percent(25) as u16;
+        input.preemption = r.percent(15) as u16;
+        input.bypass = r.percent(60) as u16;
         if r.percent(60) {
             input.demand[..t[0] as usize].fill(1);
         }

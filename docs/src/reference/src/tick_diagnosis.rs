@@ -42,7 +42,9 @@ fn samples(input: &Input, (n, m): (usize, usize)) -> Vec<Number> {
             out.push(number(&format!("mainline lane {}, {name}", j + 1), value as u32, (0, most)));
         }
     }
-    out.push(number("preemption", input.preemption as u32, (0, 1)));
+    for (name, value) in [("preemption", input.preemption), ("bypass", input.bypass)] {
+        out.push(number(name, value as u32, (0, 1)));
+    }
     out
 }
 

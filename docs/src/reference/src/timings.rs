@@ -17,6 +17,10 @@ pub struct Timings {
     pub shutdown_red: u16,
     pub maximum_premetering: u16,
     pub minimum_premetering: u16,
+    /// From 1; 0 for none.
+    pub priority_lane: usize,
+    /// 0 for never.
+    pub bypass_timeout: u16,
 }
 
 impl Timings {
@@ -39,6 +43,9 @@ impl Timings {
             // the only one in minutes
             maximum_premetering: t[12] * 600,
             minimum_premetering: t[13],
+            priority_lane: t[15] as usize,
+            // the only one in seconds
+            bypass_timeout: t[16] * 10,
         }
     }
 }

@@ -26,7 +26,7 @@ same-length-2 c = search needs
 
 returns-2 : tie.Need-returns-2
 unfolding decidedText
-returns-2 c = let p = c .before .before in rw (eq-eqb _ _ (p .before .before .before .if1 .left)) (p .put-accepted .ensures)
+returns-2 c = let p = c .before .before in rw (eq-eqb _ _ (p .before .before .if1 .left)) (p .put-accepted .ensures)
 
 pub put-decided-spec : {M : Type 1} → statement M
 put-decided-spec =

@@ -4,8 +4,8 @@ use native.Mathlib.Omega.{arith}
 use mathlib.Core.Path.{_≡_}
 use borrow.Author.Needs.{needs}
 use borrow.Author.Needs.{needs}
-use Rattle.release.proofs.demand_at.Statement.{statement}
-use Rattle.release.proofs.demand_at.Tie as tie
+use Rattle.lanes.proofs.sample_at.Statement.{statement}
+use Rattle.lanes.proofs.sample_at.Tie as tie
 
 returns : tie.Need-returns
 returns c =
@@ -22,5 +22,5 @@ array-read-result c = search needs
 returns-2 : tie.Need-returns-2
 returns-2 c = search needs
 
-pub demand-at-spec : {M : Type 1} → statement M
-demand-at-spec = tie.close (tie.spec returns mul-result array-read-result returns-2)
+pub sample-at-spec : {M : Type 1} → statement M
+sample-at-spec = tie.close (tie.spec returns mul-result array-read-result returns-2)

@@ -1,0 +1,3 @@
+pub mod Bypass
+pub mod Lanes
+pub mod Range

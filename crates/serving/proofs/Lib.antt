@@ -1,0 +1,2 @@
+pub mod ServingRank
+pub mod BypassedLaws
