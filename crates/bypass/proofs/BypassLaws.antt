@@ -3,10 +3,10 @@ use Prim.Native.Nat.{ℕ, _+_, _-_, _≤_, _<_, min}
 use mathlib.Core.Path.{_≡_, refl, sym, _∙_, ap}
 use mathlib.Core.Bool.{Bool, true, false, not, _&&_, true≢false}
 use native.Mathlib.Omega.{arith}
-use borrow.Author.Tests.{ltb-true, ltb-false, le-ltb, leb-true, eqb-true, eqb-false, eq-eqb, ne-eqb, not-true, not-false}
+use borrow.Author.Tests.{ltb-true, ltb-false, le-ltb, leb-true, le-leb, eqb-true, eqb-false, eq-eqb, ne-eqb, not-true, not-false}
 use lib.Dec.{ltb, leb, eqb}
 use Rattle.loops.specs.Any.{anyFrom}
-use Rattle.loops.proofs.AnyLaws.{neither, none-of}
+use Rattle.loops.proofs.AnyLaws.{neither, none-of, any-of-none}
 use Rattle.loops.proofs.Cases.{by-test, both-true}
 use Rattle.timings.specs.declared.Timings.{Timings}
 use Rattle.lanes.specs.declared.Lane.{Lane}
@@ -20,6 +20,7 @@ use Rattle.bypass.specs.declared.Bypass.{Bypass}
 use Rattle.bypass.specs.Bypass.{laterOf, isTimeUp, beginsAt, endsAt, keptOf, timerOf, bypassOf}
 use Rattle.bypass.specs.Lanes.{placeOf, priorityOf, endingsOf, otherNotRed, othersRed, releasedFor}
 use Rattle.bypass.specs.Range.{bypassSpoilt}
+use Rattle.bypass.specs.Found.{Due, FoundFor}
 
 pub later-min : (timer : ℕ) → laterOf timer ≡ min (timer + 1) 2550
 unfolding laterOf
@@ -193,12 +194,7 @@ within-maximum t was now e k =
     (λ f. by-test (eqb (t .priority) k) (λ q. rw (e, f, q) (now-within t (t .maxgreen))) (λ q. rw (e, f, q) (ordinary-within t)))
     (λ f. by-test (eqb (t .priority) k) (λ q. rw (e, f, q) (ordinary-within t)) (λ q. rw (e, f, q) (ordinary-within t)))
 
--- Where a bypass releases its lane, the others are red and it has been red its minimum.
-pub record Due (t : Timings) (s : Lanes) : Type 0 where
-  pub others : (i : ℕ) → i < t .lanes → (i + 1 ≡ t .priority → ⊥) → laneOf s i .colour ≡ 1
-  pub red : priorityOf t s .colour ≡ 1
-  pub long : t .minred ≤ priorityOf t s .age
-
+-- Where a bypass releases its lane, the others are red and it has been red its minimum; and where that is so it does.
 module _ (t : Timings) (s : Lanes) where
   others-red : othersRed t s ≡ true → (i : ℕ) → i < t .lanes → (i + 1 ≡ t .priority → ⊥) → laneOf s i .colour ≡ 1
   unfolding othersRed otherNotRed
@@ -216,10 +212,22 @@ module _ (t : Timings) (s : Lanes) where
       record { others = others-red (p .1); red = eqb-true _ 1 (q .0); long = leb-true (t .minred) _ (q .1) })
       (λ f. let y : eqb 0 0 ≡ false = rw f at e in absurd (true≢false y))
 
+  are-red : ((i : ℕ) → i < t .lanes → (i + 1 ≡ t .priority → ⊥) → laneOf s i .colour ≡ 1) → othersRed t s ≡ true
+  unfolding othersRed otherNotRed
+  are-red red =
+      rw (any-of-none (otherNotRed t s) 0 (t .lanes) (λ i _ h. by-test (eqb (t .priority) (i + 1))
+      (λ e. by-test (eqb (laneOf s i .colour) 1) (λ f. rw f) (λ f. rw (f, e)))
+      (λ e. rw (eq-eqb (laneOf s i .colour) 1 (red i (omega arith) (λ z. eqb-false (t .priority) (i + 1) e (sym z)))))))
+
+  pub is-due : Due t s → releasedFor t s ≡ t .priority
+  unfolding releasedFor hasBeenRed
+  is-due d = rw (eq-eqb (priorityOf t s .colour) 1 (d .red), le-leb (t .minred) (priorityOf t s .age) (d .long), are-red (d .others))
+
+  pub found-for : FoundFor t s (releasedFor t s)
+  found-for = record { released = is-due; due = λ f. due (ne-eqb (releasedFor t s) 0 f) }
+
   pub released-for : eqb (releasedFor t s) 0 ≡ false → releasedFor t s ≡ t .priority
-  unfolding releasedFor
-  released-for e =
-      by-test (hasBeenRed t (priorityOf t s) && othersRed t s) (λ f. rw f) (λ f. let y : eqb 0 0 ≡ false = rw f at e in absurd (true≢false y))
+  released-for e = is-due (due e)
 
   pub released-most : releasedFor t s ≤ t .priority
   released-most = by-test (eqb (releasedFor t s) 0) (λ e. omega (arith, eqb-true (releasedFor t s) 0 e)) (λ e. omega (arith, released-for e))

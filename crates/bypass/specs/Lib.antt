@@ -1,3 +1,4 @@
 pub mod Bypass
 pub mod Lanes
 pub mod Range
+pub mod Found

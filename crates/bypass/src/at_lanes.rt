@@ -2,6 +2,7 @@
 ghost use mathlib.Core.Path.{_≡_};
 ghost use Prim.Native.Nat.{_≤_};
 ghost use Rattle.bypass.specs.Lanes.{placeOf, priorityOf, hasPassed, endingsOf, otherNotRed, othersRed, releasedFor, doingOf};
+ghost use Rattle.bypass.specs.Found.{FoundFor};
 use crate::Bypass;
 use crate::Doing;
 use lanes::Ending;
@@ -91,9 +92,10 @@ fn others_red(t: Timings, s: Lanes) -> bool
     true
 }
 
-// The lane that a bypass releases, or 0.
+// The lane that a bypass releases, or 0: whatever the cycle, the offset and the demands are.
 pub fn released(t: Timings, s: Lanes) -> u16
-    ensures { λ r. ⌜ r ≡ releasedFor t s ⌝ }
+    ensures is { λ r. ⌜ r ≡ releasedFor t s ⌝ }
+    ensures finds { λ r. ⌜ FoundFor t s r ⌝ }
 {
     let lane = priority_lane(t, s);
     if lanes::has_been_red(t, lane) {

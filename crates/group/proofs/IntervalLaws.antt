@@ -106,7 +106,7 @@ leads-held : (wish : Wish) (red : Bool) (preemption i : ℕ) → isHeld preempti
 leads-held wish red preemption i e =
     held-cases (λ k. Leads wish red k k) preemption i e (other _ _ _ _ refl (omega arith) refl) (other _ _ _ _ refl (omega arith) refl)
 
-leads-on : (t : Timings) (preemption : ℕ) (wish : Wish) (g : Group) → g .interval ≤ 9
+pub leads-on : (t : Timings) (preemption : ℕ) (wish : Wish) (g : Group) → g .interval ≤ 9
     → Leads (steeredWish preemption wish) (allRed (g .lanes) (t .lanes)) (g .interval) (intervalOf t preemption wish g)
 unfolding intervalOf ordinaryInterval
 leads-on t preemption wish g h =

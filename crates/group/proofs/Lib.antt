@@ -1,3 +1,4 @@
 pub mod PreemptionLaws
 pub mod IntervalLaws
 pub mod RangeLaws
+pub mod SearchLaws

@@ -271,7 +271,7 @@ module _ (t : Timings) (calls : Calls) (wish : Wish) (cycle : ℕ) (samples : Me
   released-in-site true k s = omega (arith, released-most t s)
   released-in-site false k s = by-test (eqb k 7) (λ e. rw e (released-in t cycle (samples .demand) s h)) (λ e. rw e (omega arith))
 
-  none-outside : (kept : Bool) (k : ℕ) (s : Lanes) → (kept ≡ true → eqb k 7 ≡ true) → eqb k 7 ≡ false → releasedIn t kept cycle (samples .demand) k s ≡ 0
+  pub none-outside : (kept : Bool) (k : ℕ) (s : Lanes) → (kept ≡ true → eqb k 7 ≡ true) → eqb k 7 ≡ false → releasedIn t kept cycle (samples .demand) k s ≡ 0
   unfolding releasedIn
   none-outside true k s m e = absurd (true≢false (sym (m refl) ∙ e))
   none-outside false k s m e = rw e

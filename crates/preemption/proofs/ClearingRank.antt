@@ -18,16 +18,17 @@ use Rattle.lanes.specs.declared.Lanes.{Lanes}
 use Rattle.lanes.specs.declared.Endings.{Endings}
 use Rattle.lanes.specs.Lanes.{endingOf, lanesEntered}
 use Rattle.lanes.proofs.LaneLaws.{Within}
-use Rattle.release.proofs.ReleaseLaws.{none-released, none-on-entry}
+use Rattle.release.proofs.ReleaseLaws.{none-released}
 use Rattle.bypass.specs.declared.Bypass.{Bypass}
 use Rattle.bypass.specs.Lanes.{hasPassed, endingsOf}
-use Rattle.bypass.proofs.BypassLaws.{kept-metering, within-maximum, none-due-on-entry}
+use Rattle.bypass.proofs.BypassLaws.{kept-metering, within-maximum}
 use Rattle.group.specs.declared.Group.{Group}
 use Rattle.group.specs.Intervals.{ageOf, timeOf, successorOf, nextInterval}
 use Rattle.group.specs.Preemption.{isPreMetering, isHeld, steeredWish}
 use Rattle.group.specs.Group.{allRed, ordinaryInterval, intervalOf, bypassIn, lanesIn, releasedIn, groupOf, lanesMoved, movedWith, movedOf}
 use Rattle.group.proofs.IntervalLaws.{isOwn, lanes-cases}
 use Rattle.group.proofs.RangeLaws.{LanesGood, GroupGood}
+use Rattle.group.proofs.SearchLaws.{by-search, none-on-entering}
 use Rattle.preemption.specs.Clearing.{clearingTicks}
 use Rattle.preemption.proofs.LanesRed.{allRedIn, lanes-red-most, lanes-red-fall, entered-red, some-lane}
 
@@ -104,16 +105,6 @@ module _ (t : Timings) (ok : TimingsGood t) (wish : Wish) (passage : List ℕ) w
       (λ e. rw e (λ _ _. omega (arith, one-less (t .shutdown) age (ok .shutdown .1) e)))
   step endings (suc (suc (suc (suc (suc (suc (suc (suc (suc (suc i)))))))))) age s b h v = absurd (omega arith)
 
--- Where no lane is released: on entering metering, and outside it.
-entry-none : (t : Timings) (ok : TimingsGood t) (cycle : ℕ) (demand : List ℕ) (kept : Bool) → releasedIn t kept cycle demand 7 (lanesEntered (t .lanes)) ≡ 0
-unfolding releasedIn
-entry-none t ok cycle demand true = none-due-on-entry t (ok .priority-most) (ok .lanes-most) (omega (arith, ok .red-least))
-entry-none t ok cycle demand false = none-on-entry t cycle demand (ok .lanes-least) (ok .lanes-most) (omega (arith, ok .red-least))
-
-outside-none : (t : Timings) (cycle : ℕ) (demand : List ℕ) (k : ℕ) (s : Lanes) (kept : Bool) → kept ≡ false → eqb k 7 ≡ false → releasedIn t kept cycle demand k s ≡ 0
-unfolding releasedIn
-outside-none t cycle demand k s kept e f = rw (e, f)
-
 module _ (t : Timings) (ok : TimingsGood t) (call : ℕ) (wish : Wish) (cycle : ℕ) (samples : Metered) (g : Group) (v : GroupGood g (t .lanes) (t .priority)) where
   -- The call is on; a bus may call too.
   abbrev calls : Calls
@@ -148,10 +139,10 @@ module _ (t : Timings) (ok : TimingsGood t) (call : ℕ) (wish : Wish) (cycle : 
       (λ k _ o _. outside k _ (neither (eqb k 7) (eqb k 8) o .0))
     where
       on-entry : (kept : Bool) → releasedIn t kept cycle (samples .demand) 7 (lanesEntered (t .lanes)) ≡ 0
-      on-entry kept = entry-none t ok cycle (samples .demand) kept
+      on-entry = none-on-entering t (ok .lanes-least) (ok .priority-most) (ok .lanes-most) (omega (arith, ok .red-least)) cycle (samples .demand)
 
       outside : (k : ℕ) (s : Lanes) → eqb k 7 ≡ false → releasedIn t (bypassIn t call (samples .passage) k g .kept) cycle (samples .demand) k s ≡ 0
-      outside k s e = outside-none t cycle (samples .demand) k s _ (not-kept k e) e
+      outside k s e = by-search t cycle (samples .demand) k s _ (not-kept k e) ∙ rw e
 
   pub clear-falls : isPreMetering (movedOf t calls wish cycle samples g .group .interval) ≡ false
       → groupClearIn t (movedOf t calls wish cycle samples g .group) < groupClearIn t g

@@ -2,10 +2,12 @@
 use Prim.Native.Nat.{ℕ, _+_, _-_, _*_, _/_, _≤_, _<_}
 use mathlib.Core.Path.{_≡_, refl}
 use native.Mathlib.Omega.{arith}
-use native.Mathlib.Nat.{add-mul, one-mul, mul-one, mul-le-mul-left, lt-of-mul-lt-mul-right, div-lt-iff-lt-mul, le-div-iff-mul-le}
+use native.Mathlib.Nat.{add-mul, zero-mul, one-mul, lt-of-mul-lt-mul-right, div-lt-iff-lt-mul, le-div-iff-mul-le}
 use native.Mathlib.Nat.{div-mul-le-self}
-use borrow.Author.Tests.{ne-eqb}
-use Rattle.release.specs.Cycle.{toNearest, cycleTicks, roundedUp, offsetTicks}
+use borrow.Author.Tests.{ne-eqb, leb-true, leb-false, le-leb, lt-leb}
+use lib.Dec.{leb}
+use Rattle.loops.proofs.Cases.{by-test}
+use Rattle.release.specs.Cycle.{toNearest, cycleTicks, roundedUp}
 use Rattle.release.specs.Nearest.{Nearest}
 use Rattle.release.proofs.NearestLaws.{nearest, not-above, not-below}
 
@@ -23,10 +25,21 @@ module _ (b : ℕ) (h : 1 ≤ b) where
       let p : (a + (b - 1)) / b < c + 1 = div-lt-iff-lt-mul pos .1 below in
       rw (up-is a) (omega arith)
 
+  up-beyond : (a c : ℕ) → c * b < a → c < roundedUp a b
+  up-beyond a c l =
+      let above : (c + 1) * b ≤ a + (b - 1) = omega (arith, add-mul c 1 b, one-mul b) in
+      let p : c + 1 ≤ (a + (b - 1)) / b = le-div-iff-mul-le pos .1 above in
+      rw (up-is a) (omega arith)
+
+  -- Whether it is c at the most needs no division.
+  pub up-by-product : (a c : ℕ) → leb a (c * b) ≡ leb (roundedUp a b) c
+  up-by-product a c =
+      by-test (leb a (c * b))
+      (λ e. rw (e, le-leb (roundedUp a b) c (up-most a c (leb-true a (c * b) e))))
+      (λ e. rw (e, lt-leb (roundedUp a b) c (up-beyond a c (leb-false a (c * b) e))))
+
   pub up-least : (a : ℕ) → 1 ≤ a → 1 ≤ roundedUp a b
-  up-least a l =
-      let above : 1 * b ≤ a + (b - 1) = omega (arith, one-mul b) in
-      rw (up-is a) (le-div-iff-mul-le pos .1 above)
+  up-least a l = up-beyond a 0 (omega (arith, zero-mul b))
 
   pub up-grows : (a c : ℕ) → a ≤ c → roundedUp a b ≤ roundedUp c b
   up-grows a c l =
@@ -57,13 +70,3 @@ module _ (vehicles rate : ℕ) where
 pub no-cycle : (vehicles : ℕ) → cycleTicks vehicles 0 ≡ 0
 unfolding cycleTicks toNearest
 no-cycle v = refl
-
--- The offset is no more than the cycle, and at least 1.
-module _ (n : ℕ) (h : 1 ≤ n) where
-  pub offset-most : (c : ℕ) → offsetTicks c n ≤ c
-  unfolding offsetTicks
-  offset-most c = up-most n h c c (omega (arith, mul-one c, mul-le-mul-left c h))
-
-  pub offset-least : (c : ℕ) → 1 ≤ c → 1 ≤ offsetTicks c n
-  unfolding offsetTicks
-  offset-least c l = up-least n h c l

@@ -15,6 +15,7 @@ use Rattle.lanes.specs.Lanes.{laneOf, lanesOf, lanesEntered}
 use Rattle.loops.proofs.Cases.{by-test, both-true}
 use Rattle.lanes.proofs.LaneLaws.{each-lane, entered-in}
 use Rattle.release.specs.Release.{isReady, readyAt, mayRelease, releasedOf, greenIf, releaseOf}
+use Rattle.release.specs.Found.{Ready}
 use Rattle.turns.proofs.TurnLaws.{first-in, first-holds}
 
 -- Lane i after the release of a lane, or of none.
@@ -44,13 +45,7 @@ module _ (s : Lanes) (k : ℕ) where
   unfolding releaseOf lanesOf
   offset-released e = rw e
 
--- A lane that is ready.
-pub record Ready (t : Timings) (cycle demand : ℕ) (l : Lane) : Type 0 where
-  pub red : l .colour ≡ 1
-  pub long : t .minred ≤ l .age
-  pub wanted : demand ≡ 1
-  pub cycled : cycle ≤ l .counter
-
+-- The test for a lane is what the words ask.
 module _ (t : Timings) (cycle demand : ℕ) (l : Lane) where
   pub ready : isReady t cycle demand l ≡ true → Ready t cycle demand l
   unfolding isReady hasBeenRed
@@ -79,7 +74,11 @@ module _ (t : Timings) (cycle : ℕ) (demand : List ℕ) (s : Lanes) where
   unfolding releasedOf
   may-release h = by-test (mayRelease t cycle s) (λ e. e) (λ e. let y = rw e at h in absurd (true≢false y))
 
-  pub released-ready : eqb (releasedOf t cycle demand s) 0 ≡ false → readyAt t cycle demand s (releasedOf t cycle demand s) ≡ true
+  pub none-found : mayRelease t cycle s ≡ false → releasedOf t cycle demand s ≡ 0
+  unfolding releasedOf
+  none-found e = rw e
+
+  released-ready : eqb (releasedOf t cycle demand s) 0 ≡ false → readyAt t cycle demand s (releasedOf t cycle demand s) ≡ true
   unfolding releasedOf
   released-ready h =
       let e = may-release h in

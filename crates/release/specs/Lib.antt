@@ -1,3 +1,4 @@
 pub mod Cycle
 pub mod Nearest
 pub mod Release
+pub mod Found

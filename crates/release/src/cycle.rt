@@ -1,7 +1,8 @@
-// The cycle of a metering rate, and its part for one lane.
+// The cycle of a metering rate, the only quotient that a tick's release needs, and the offset.
 ghost use mathlib.Core.Path.{_≡_};
-ghost use Prim.Native.Nat.{_+_, _*_, _≤_};
-ghost use Rattle.release.specs.Cycle.{toNearest, cycleTicks, roundedUp, offsetTicks};
+ghost use Prim.Native.Nat.{_*_, _≤_};
+ghost use lib.Dec.{leb};
+ghost use Rattle.release.specs.Cycle.{toNearest, cycleTicks, offsetTicks};
 ghost use Rattle.release.specs.Nearest.{Nearest};
 
 const TICKS_OF_AN_HOUR: u32 = 36000;
@@ -31,21 +32,13 @@ pub fn cycle_ticks(vehicles: u16, rate: u16) -> u32
     to_nearest(TICKS_OF_AN_HOUR * (vehicles as u32), rate)
 }
 
-// a ÷ b, rounded up; by 0, 0.
-fn rounded_up(a: u32, b: u16) -> u32
-    requires { ⌜ a + b ≤ 4294967295 ⌝ }
-    ensures { λ r. ⌜ r ≡ roundedUp a b ⌝ }
+// Whether so many ticks since a group's last green start are its offset, cycle ÷ n, rounded up, or more:
+// n times as many are a cycle or more, so that nothing is divided. Of no lanes it is 0, and up.
+pub fn offset_is_up(cycle: u16, n: u16, ticks: u16) -> bool
+    ensures { λ r. ⌜ r ≡ leb (offsetTicks cycle n) ticks ⌝ }
 {
-    if b == 0 {
-        return 0;
+    if n == 0 {
+        return true;
     }
-    let b = b as u32;
-    (a + (b - 1)) / b
-}
-
-// The ticks between two greens of a group of n lanes under fractional offset.
-pub fn offset_ticks(cycle: u16, n: u16) -> u32
-    ensures { λ r. ⌜ r ≡ offsetTicks cycle n ⌝ }
-{
-    rounded_up(cycle as u32, n)
+    cycle as u32 <= (ticks as u32) * (n as u32)
 }

@@ -2,9 +2,10 @@
 mod cycle;
 
 ghost use mathlib.Core.Path.{_≡_};
-ghost use Prim.Native.Nat.{_≤_};
+ghost use Prim.Native.Nat.{ℕ, _≤_};
 ghost use Rattle.turns.specs.Turn.{nextOf, firstAfter};
 ghost use Rattle.release.specs.Release.{isReady, readyAt, anyGreen, mayRelease, releasedOf, greenIf, releaseOf};
+ghost use Rattle.release.specs.Found.{Found};
 pub use cycle::cycle_ticks;
 use lanes::GREEN;
 use lanes::Lane;
@@ -58,7 +59,7 @@ fn may_release(t: Timings, cycle: u16, s: Lanes) -> bool
     ensures { λ r. ⌜ r ≡ mayRelease t cycle s ⌝ }
 {
     if t.mode == FRACTIONAL_OFFSET {
-        return cycle::offset_ticks(cycle, t.lanes) <= s.offset as u32;
+        return cycle::offset_is_up(cycle, t.lanes, s.offset);
     }
     !any_green(s, t.lanes)
 }
@@ -87,9 +88,14 @@ fn first_ready(t: Timings, cycle: u16, demand: [u16; 4], s: Lanes) -> u16
     0
 }
 
-// The lane that this tick releases.
+// The search, for whatever cycle it is given: the lane that a tick in metering releases where no bypass
+// is kept. If the last released lane is one of the group's, none is found exactly where no release is
+// possible or no lane is ready, and otherwise the ready lane that is the fewest turns behind that one;
+// and no other number fits these words.
 pub fn released(t: Timings, cycle: u16, demand: [u16; 4], s: Lanes) -> u16
-    ensures { λ r. ⌜ r ≡ releasedOf t cycle demand s ⌝ }
+    ensures is { λ r. ⌜ r ≡ releasedOf t cycle demand s ⌝ }
+    ensures finds { λ r. ⌜ (1 ≤ s .last → s .last ≤ t .lanes → Found t cycle demand s r) ⌝ }
+    ensures only { λ r. ⌜ (1 ≤ s .last → s .last ≤ t .lanes → (k : ℕ) → Found t cycle demand s k → k ≡ r) ⌝ }
 {
     if may_release(t, cycle, s) {
         return first_ready(t, cycle, demand, s);

@@ -7,7 +7,6 @@ use native.Mathlib.Omega.{arith}
 use borrow.Author.Tests.{le-leb, lt-leb, eqb-true, eqb-false, eq-eqb, ne-eqb}
 use lib.Dec.{eqb}
 use lib.ListN.{getD}
-use Rattle.loops.proofs.AnyLaws.{any-of-none}
 use Rattle.loops.proofs.Cases.{by-test}
 use Rattle.timings.specs.declared.Timings.{Timings}
 use Rattle.site.proofs.TimingLaws.{TimingsGood}
@@ -19,21 +18,22 @@ use Rattle.lanes.specs.declared.Lane.{Lane}
 use Rattle.lanes.specs.declared.Lanes.{Lanes}
 use Rattle.lanes.specs.declared.Endings.{Endings}
 use Rattle.lanes.specs.declared.Ending.the-variants.{Cut, Held, Now}
-use Rattle.lanes.specs.Intervals.{riseOf, greenAt, laneTick, hasBeenRed}
+use Rattle.lanes.specs.Intervals.{riseOf, greenAt, laneTick}
 use Rattle.lanes.specs.Lanes.{laneOf, endingOf, lanesTick}
 use Rattle.lanes.proofs.LaneLaws.{rise-min, tick-cases, lane-in, offset-ticked, last-ticked}
 use Rattle.release.specs.Release.{releasedOf, releaseOf}
 use Rattle.release.proofs.ReleaseLaws.{none-released, lane-goes, lane-stays, last-released, offset-released, released-lane}
 use Rattle.bypass.specs.declared.Bypass.{Bypass}
 use Rattle.bypass.specs.Bypass.{laterOf, isTimeUp, endsAt, keptOf, markOf, timerOf, bypassOf}
-use Rattle.bypass.specs.Lanes.{placeOf, priorityOf, hasPassed, otherNotRed, othersRed, releasedFor}
-use Rattle.bypass.proofs.BypassLaws.{later-min, BypassGood, kept-metering, kept-anew, is-kept, stays-kept, whileKept, atTheEnd, withNone, endings-none, endings-ended, due, released-for, none-due-on-entry}
+use Rattle.bypass.specs.Lanes.{placeOf, priorityOf, hasPassed, releasedFor}
+use Rattle.bypass.proofs.BypassLaws.{later-min, BypassGood, kept-metering, kept-anew, is-kept, stays-kept, whileKept, atTheEnd, withNone, endings-none, endings-ended, due, is-due, released-for}
 use Rattle.group.specs.declared.Group.{Group}
 use Rattle.group.specs.Intervals.{ageOf, timeOf, fromMetering, successorOf, nextInterval}
 use Rattle.group.specs.Preemption.{isPreMetering, isHeld, steeredWish}
 use Rattle.group.specs.Group.{allRed, ordinaryInterval, intervalOf, bypassIn, lanesIn, lanesMoved, releasedIn, groupOf, movedWith, movedOf}
-use Rattle.group.proofs.IntervalLaws.{isOwn, seven-is-own, lanes-cases}
+use Rattle.group.proofs.IntervalLaws.{isOwn, lanes-cases}
 use Rattle.group.proofs.RangeLaws.{GroupGood, all-red, moved-bypass}
+use Rattle.group.proofs.SearchLaws.{by-search, entering}
 use Rattle.serving.specs.Bypassed.{Kept, Older, Under, Alike, Bypassed}
 use Rattle.serving.proofs.ServingRank.{ticked, other-after, own-after, stays-green, lanes-after, release-after}
 
@@ -128,11 +128,6 @@ own-ticked : (t : Timings) (endings : Endings) (passage : List ℕ) (was now : �
 unfolding lanesIn
 own-ticked t endings passage was now s b e =
     by-test (eqb now 7) (λ f. rw (b, f)) (λ f. let eight : eqb now 8 ≡ true = rw f at e in rw (f, eight))
-
-searched : (t : Timings) (cycle : ℕ) (demand : List ℕ) (now : ℕ) (s : Lanes) (kept : Bool) → kept ≡ false
-    → releasedIn t kept cycle demand now s ≡ cond (eqb now 7) (releasedOf t cycle demand s) 0
-unfolding releasedIn
-searched t cycle demand now s kept e = rw e
 
 -- One lane at such a tick: a green that is cut, held or ended now, and one that has been red its minimum.
 module _ (t : Timings) (l : Lane) (passage : ℕ) where
@@ -273,20 +268,16 @@ module _ (t : Timings) (ok : TimingsGood t) (calls : Calls) (wish : Wish) (cycle
     -- The release.
     due-when : g .interval ≡ 7 → ((i : ℕ) → i < t .lanes → (i + 1 ≡ t .priority → ⊥) → laneOf (g′ .lanes) i .colour ≡ 1)
         → priorityOf t (g .lanes) .colour ≡ 1 → t .minred ≤ priorityOf t (g .lanes) .age + 1 → releasedFor t s ≡ t .priority
-    unfolding releasedFor hasBeenRed othersRed otherNotRed
     due-when b red c a =
         let r = still-red t (priorityOf t (g .lanes)) (getD (samples .passage) (t .priority - 1) 0) c in
         let own = own-ticks b in
-        let colour : priorityOf t s .colour ≡ 1 = ap (λ (l : Lane). l .colour) own ∙ r .0 in
         let age : priorityOf t s .age ≡ riseOf (priorityOf t (g .lanes) .age) = ap (λ (l : Lane). l .age) own ∙ r .1 in
-        rw (
-          eq-eqb (priorityOf t s .colour) 1 colour,
-          le-leb (t .minred) (priorityOf t s .age) (omega (arith, age, a, rise-min (priorityOf t (g .lanes) .age), ok .red-most)),
-          any-of-none (otherNotRed t s) 0 (t .lanes) (λ i _ h. by-test (eqb (t .priority) (i + 1))
-              (λ e. by-test (eqb (laneOf s i .colour) 1) (λ f. rw f) (λ f. rw (f, e)))
-              (λ e. let other : i + 1 ≡ t .priority → ⊥ = λ z. eqb-false (t .priority) (i + 1) e (sym z) in
-              rw (eq-eqb (laneOf s i .colour) 1 (sym (ap (λ (l : Lane). l .colour) (other-stays i (omega arith) other)) ∙ red i (omega arith) other)))),
-        )
+        is-due t s
+        (record {
+          others = λ i h other. sym (ap (λ (l : Lane). l .colour) (other-stays i h other)) ∙ red i h other;
+          red = ap (λ (l : Lane). l .colour) own ∙ r .0;
+          long = omega (arith, age, a, rise-min (priorityOf t (g .lanes) .age), ok .red-most);
+        })
 
     found : g .interval ≡ 7 → priorityOf t (g .lanes) .colour ≡ 3 → eqb (releasedFor t s) 0 ≡ true
     found b green =
@@ -298,13 +289,18 @@ module _ (t : Timings) (ok : TimingsGood t) (calls : Calls) (wish : Wish) (cycle
     older : (l : Lane) (passage : ℕ) (l′ : Lane) → l′ ≡ laneTick t Held l passage → l .colour ≡ 3 → Older passage l l′
     older l passage l′ e c = subst (Older passage l) (sym e) (older-green t l passage c)
 
+    none-entering : (g .interval ≡ 7 → ⊥) → movedOf t calls wish cycle samples g .released ≡ 0
+    unfolding movedOf movedWith
+    none-entering f =
+        entering t calls wish cycle samples g (ok .lanes-least) (ok .priority-most) (ok .lanes-most) (omega (arith, ok .red-least)) v f seven
+
     under-words : Under t (samples .passage) g g′ (movedOf t calls wish cycle samples g .released)
     unfolding priorityOf placeOf
     under-words =
         let r = releasedFor t s in
         record {
           stops = λ f. released-are ∙ by-test (eqb r 0) (λ e. eqb-true r 0 e) (λ e. absurd (f (released-are ∙ released-for t s e)));
-          enters = λ f. released-are ∙ on-entry f;
+          enters = none-entering;
           lanes = λ b. lanes-are ∙ ap (λ (w : Lanes). releaseOf w r) (ticked-are b) ∙ ap (releaseOf u) (sym released-are);
           cut = λ b i h f c a. ap (λ (l : Lane). l .colour) (other-ticks b i h f)
               ∙ cut-green t (laneOf (g .lanes) i) (getD (samples .passage) i 0) c (omega (arith, a, rise-min (laneOf (g .lanes) i .age), ok .mingreen-most, ok .green-most));
@@ -334,15 +330,6 @@ module _ (t : Timings) (ok : TimingsGood t) (calls : Calls) (wish : Wish) (cycle
                 ),
               );
         }
-      where
-        on-entry : (g .interval ≡ 7 → ⊥) → releasedFor t s ≡ 0
-        on-entry f =
-            lanes-cases t (calls .preemption) wish (whileKept t) (samples .passage) g (v .interval) (λ k q. k ≡ 7 → releasedFor t q ≡ 0)
-            (λ b _ _. absurd (f b))
-            (λ _ _. none-due-on-entry t (ok .priority-most) (ok .lanes-most) (omega (arith, ok .red-least)))
-            (λ _ e. absurd (omega arith))
-            (λ k _ o _ e. absurd (seven-is-own e o))
-            seven
 
   -- The tick of the end: the priority lane's green ends now, and the search does not find it.
   module _ (k : g .bypass .kept ≡ true) (none : g′ .bypass .kept ≡ false) (green : priorityOf t (g .lanes) .colour ≡ 3) where
@@ -425,7 +412,7 @@ module _ (t : Timings) (ok : TimingsGood t) (calls : Calls) (wish : Wish) (cycle
     resumed =
         let b = bypassIn t (calls .bypass) (samples .passage) now g in
         let same = ap (λ e. lanesIn t e (samples .passage) (g .interval) now (g .lanes)) (endings-ended t (g .bypass) b k none) ∙ before-release in (
-          ap (λ (w : Lanes). releasedIn t (b .kept) cycle (samples .demand) now w) same ∙ searched t cycle (samples .demand) now q (b .kept) none,
+          ap (λ (w : Lanes). releasedIn t (b .kept) cycle (samples .demand) now w) same ∙ by-search t cycle (samples .demand) now q (b .kept) none,
           ap (λ (w : Lanes). releaseOf w (releasedIn t (b .kept) cycle (samples .demand) now (lanesMoved t now b samples g))) same,
         )
 

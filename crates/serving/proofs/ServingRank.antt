@@ -1,14 +1,13 @@
 -- How long a bypass waits until the priority lane is green: a number that falls at each tick after which one is kept and the lane is not
 -- green.
 use Prim.Native.Nat.{ℕ, _+_, _-_, _≤_, _<_, max}
-use mathlib.Core.Path.{_≡_, refl, sym, _∙_, ap, subst}
+use mathlib.Core.Path.{_≡_, sym, _∙_, ap, subst}
 use mathlib.Core.Bool.{true, false, cond, true≢false}
 use mathlib.Core.List.{List}
 use native.Mathlib.Omega.{arith}
-use borrow.Author.Tests.{eq-eqb, eqb-false, eqb-true, le-leb, leb-false, leb-true, lt-ltb}
+use borrow.Author.Tests.{eq-eqb, eqb-false, eqb-true, le-leb, leb-false, leb-true, lt-ltb, ne-eqb}
 use lib.Dec.{leb, eqb}
 use lib.ListN.{getD}
-use Rattle.loops.proofs.AnyLaws.{any-of-none}
 use Rattle.loops.proofs.Cases.{by-test}
 use Rattle.timings.specs.declared.Timings.{Timings}
 use Rattle.site.proofs.TimingLaws.{TimingsGood}
@@ -20,7 +19,7 @@ use Rattle.lanes.specs.declared.Lanes.{Lanes}
 use Rattle.lanes.specs.declared.Endings.{Endings}
 use Rattle.lanes.specs.declared.Ending.{Ending}
 use Rattle.lanes.specs.declared.Ending.the-variants.{Cut, Held, Now}
-use Rattle.lanes.specs.Intervals.{greenAt, laneTick, hasBeenRed}
+use Rattle.lanes.specs.Intervals.{greenAt, laneTick}
 use Rattle.lanes.specs.Lanes.{laneOf, endingOf, lanesTick, lanesEntered}
 use Rattle.lanes.proofs.LaneLaws.{cut-within, now-within, lane-in, entered-in}
 use Rattle.lanes.proofs.RedLaws.{redIn, red-falls, red-now}
@@ -29,14 +28,15 @@ use Rattle.release.specs.Release.{releaseOf}
 use Rattle.release.proofs.ReleaseLaws.{none-released, lane-goes}
 use Rattle.bypass.specs.declared.Bypass.{Bypass}
 use Rattle.bypass.specs.Bypass.{laterOf, isTimeUp}
-use Rattle.bypass.specs.Lanes.{placeOf, priorityOf, hasPassed, otherNotRed, othersRed, releasedFor}
-use Rattle.bypass.proofs.BypassLaws.{stays-kept, whileKept, endings-kept, released-for, none-due-on-entry}
+use Rattle.bypass.specs.Lanes.{placeOf, priorityOf, hasPassed, releasedFor}
+use Rattle.bypass.proofs.BypassLaws.{stays-kept, whileKept, endings-kept, is-due, released-for, none-due-on-entry}
 use Rattle.group.specs.declared.Group.{Group}
 use Rattle.group.specs.Intervals.{ageOf, timeOf, fromMetering, successorOf, nextInterval}
 use Rattle.group.specs.Group.{ordinaryInterval, intervalOf, bypassIn, lanesIn, lanesMoved, releasedIn, groupOf, movedWith, movedOf}
 use Rattle.group.proofs.IntervalLaws.{seven-is-own, lanes-cases}
 use Rattle.group.proofs.PreemptionLaws.{steered}
 use Rattle.group.proofs.RangeLaws.{LaneGood, LanesGood, GroupGood, lanes-keep, moved-bypass}
+use Rattle.group.proofs.SearchLaws.{by-bypass}
 use Rattle.serving.specs.Serving.{othersTicks, servingTicks}
 
 -- Ticks, the present one included, until lane i, unless it is the priority lane, is red, its green cut at the minimum.
@@ -69,10 +69,6 @@ same-tick t a b l passage e = rw e
 held-green : (t : Timings) (l : Lane) (passage : ℕ) → eqb (l .colour) 3 ≡ true → laneTick t Held l passage .colour ≡ 3
 unfolding laneTick greenAt
 held-green t l passage e = rw e
-
-kept-release : (t : Timings) (cycle : ℕ) (demand : List ℕ) (now : ℕ) (s : Lanes) → releasedIn t true cycle demand now s ≡ releasedFor t s
-unfolding releasedIn
-kept-release t cycle demand now s = refl
 
 entered-others : (t : Timings) → TimingsGood t → othersIn t (lanesEntered (t .lanes)) ≤ 0
 unfolding othersIn otherIn redIn
@@ -188,22 +184,16 @@ module _ (t : Timings) (ok : TimingsGood t) (some : 1 ≤ t .priority) where
         let u = good .inside i (omega (arith, ok .lanes-most)) l in
         red-now t (t .mingreen) 0 (laneOf after i) (u .least) (u .most) (omega (arith, left, h)) .0
 
-    others-are-red : othersIn t after ≤ 0 → othersRed t after ≡ true
-    unfolding othersRed otherNotRed
-    others-are-red h =
-        rw (any-of-none (otherNotRed t after) 0 (t .lanes) (λ i _ l. by-test (eqb (t .priority) (i + 1))
-        (λ e. by-test (eqb (laneOf after i .colour) 1) (λ f. rw f) (λ f. rw (f, e)))
-        (λ e. rw (eq-eqb (laneOf after i .colour) 1 (other-red i (omega arith) h e)))))
-
     own-good : LaneGood true (priorityOf t after)
     unfolding priorityOf placeOf
     own-good = good .inside place in-four in-site
 
     due-now : othersIn t after ≤ 0 → ownIn t after ≤ 0 → releasedFor t after ≡ t .priority
-    unfolding releasedFor hasBeenRed ownIn
+    unfolding ownIn
     due-now h k =
         let red = red-now t 0 (t .minred) (priorityOf t after) (own-good .least) (own-good .most) k in
-        rw (eq-eqb (priorityOf t after .colour) 1 (red .0), le-leb (t .minred) (priorityOf t after .age) (red .1), others-are-red h)
+        is-due t after
+        (record { others = λ i l other. other-red i l h (ne-eqb (t .priority) (i + 1) (λ z. other (sym z))); red = red .0; long = red .1 })
 
     released-green : eqb (releasedFor t after) 0 ≡ false → priorityOf t (releaseOf after (releasedFor t after)) .colour ≡ 3
     unfolding priorityOf placeOf
@@ -283,27 +273,22 @@ module _ (t : Timings) (ok : TimingsGood t) (some : 1 ≤ t .priority) where
         (λ _ e. absurd (omega arith))
         (λ k _ o _ e. absurd (seven-is-own e o))
 
-    -- The lanes after it.
-    pub lanes-after : bypass .kept ≡ true
-        → movedOf t calls wish cycle samples g .group .lanes
-        ≡ (let s : Lanes = lanesIn t (whileKept t) (samples .passage) (g .interval) now (g .lanes) in releaseOf s (releasedFor t s))
+    -- The lanes before its release, and after it.
+    abbrev unreleased : Lanes
+    unreleased = lanesIn t (whileKept t) (samples .passage) (g .interval) now (g .lanes)
+
+    pub lanes-after : bypass .kept ≡ true → movedOf t calls wish cycle samples g .group .lanes ≡ releaseOf unreleased (releasedFor t unreleased)
     unfolding movedOf movedWith groupOf lanesMoved
     lanes-after k =
         ap (λ e. let s : Lanes = lanesIn t e (samples .passage) (g .interval) now (g .lanes) in releaseOf s (releasedIn t (bypass .kept) cycle (samples .demand) now s)) (endings-kept t (g .bypass) bypass k)
-        ∙ ap (λ b. let s : Lanes = lanesIn t (whileKept t) (samples .passage) (g .interval) now (g .lanes) in releaseOf s (releasedIn t b cycle (samples .demand) now s)) k
-        ∙ released-kept
-      where
-        released-kept : let s : Lanes = lanesIn t (whileKept t) (samples .passage) (g .interval) now (g .lanes) in
-            releaseOf s (releasedIn t true cycle (samples .demand) now s) ≡ releaseOf s (releasedFor t s)
-        released-kept = ap (releaseOf _) (kept-release t cycle (samples .demand) now _)
+        ∙ ap (releaseOf unreleased) (by-bypass t cycle (samples .demand) now unreleased (bypass .kept) k)
 
     -- The lane that it releases.
-    pub release-after : bypass .kept ≡ true
-        → movedOf t calls wish cycle samples g .released ≡ releasedFor t (lanesIn t (whileKept t) (samples .passage) (g .interval) now (g .lanes))
-    unfolding movedOf movedWith groupOf lanesMoved releasedIn
+    pub release-after : bypass .kept ≡ true → movedOf t calls wish cycle samples g .released ≡ releasedFor t unreleased
+    unfolding movedOf movedWith groupOf lanesMoved
     release-after k =
         ap (λ e. let s : Lanes = lanesIn t e (samples .passage) (g .interval) now (g .lanes) in releasedIn t (bypass .kept) cycle (samples .demand) now s) (endings-kept t (g .bypass) bypass k)
-        ∙ ap (λ b. releasedIn t b cycle (samples .demand) now (lanesIn t (whileKept t) (samples .passage) (g .interval) now (g .lanes))) k
+        ∙ by-bypass t cycle (samples .demand) now unreleased (bypass .kept) k
 
     -- Where it is kept and the lane is not green after the tick, a tick less is left, of no more than the bound.
     pub served-falls : movedOf t calls wish cycle samples g .group .bypass .kept ≡ true

@@ -26,8 +26,10 @@ use Rattle.group.specs.Intervals.{fromMetering}
 use Rattle.group.specs.Preemption.{steeredWish}
 use Rattle.group.specs.Group.{groupOf, movedWith, movedOf}
 use Rattle.group.specs.Steered.{Steered}
+use Rattle.group.specs.Searched.{Searched}
 use Rattle.group.proofs.PreemptionLaws.{steered}
 use Rattle.group.proofs.RangeLaws.{moved-good, moved-released}
+use Rattle.group.proofs.SearchLaws.{moved-searched}
 use Rattle.state.specs.declared.State.{State}
 use Rattle.state.specs.State.{stateSpoilt}
 use Rattle.state.proofs.StateLaws.{StateGood, state-good}
@@ -95,12 +97,12 @@ module _ (vehicles : ℕ) (one : 1 ≤ vehicles) (three : vehicles ≤ 3) where
   wish-cycle : (w : Wish) → WishGood w → Cycled vehicles w (cycleTicks vehicles (rateOf w))
   wish-cycle w g = record { metering = λ rate e. rw e (metering-cycle rate (rw e at g)); other = no-metering w }
 
-  -- Where metering goes on, the wish has a cycle.
-  some-of-wish : (w : Wish) → WishGood w → fromMetering w ≡ 7 → 1 ≤ cycleTicks vehicles (rateOf w)
-  some-of-wish Dark g e = absurd (omega arith)
-  some-of-wish Green g e = absurd (omega arith)
-  some-of-wish (Metering rate) g e = omega (arith, metering-cycle rate g .least)
-  some-of-wish Clear g e = absurd (omega arith)
+  -- Where metering goes on, the wish has a cycle of 20 at the least.
+  least-of-wish : (w : Wish) → WishGood w → fromMetering w ≡ 7 → 20 ≤ cycleTicks vehicles (rateOf w)
+  least-of-wish Dark g e = absurd (omega arith)
+  least-of-wish Green g e = absurd (omega arith)
+  least-of-wish (Metering rate) g e = metering-cycle rate g .least
+  least-of-wish Clear g e = absurd (omega arith)
 
 module _ (x : Site) (s : State) (i : Input) (a : Accepted x s i) where
   wish-in : WishGood (decidedIn x s i .wish)
@@ -119,7 +121,7 @@ module _ (x : Site) (s : State) (i : Input) (a : Accepted x s i) where
       let g = timings-good x (a .site) in
       wish-cycle (timingsOf x .vehicles) (g .vehicles-least) (g .vehicles-most) (decidedIn x s i .wish) wish-in
 
-  -- At any wish it is 720 ticks at the most, and some where metering goes on.
+  -- At any wish it is 720 ticks at the most, and 20 at the least where metering goes on.
   pub cycle-in : cycleIn x s i ≤ 720
   unfolding cycleIn
   cycle-in =
@@ -128,13 +130,13 @@ module _ (x : Site) (s : State) (i : Input) (a : Accepted x s i) where
       rate-cases (decidedIn x s i .wish) (λ r. cycleTicks vehicles r ≤ 720) wish-in (rw (no-cycle vehicles) (omega arith))
       (λ r h. cycle-most vehicles r (g .vehicles-most) h)
 
-  pub some-cycle : fromMetering (steeredWish (i .calls .preemption) (decidedIn x s i .wish)) ≡ 7 → 1 ≤ cycleIn x s i
+  pub least-cycle : fromMetering (steeredWish (i .calls .preemption) (decidedIn x s i .wish)) ≡ 7 → 20 ≤ cycleIn x s i
   unfolding cycleIn steeredWish
-  some-cycle e =
+  least-cycle e =
       let g = timings-good x (a .site) in
       by-test (eqb (i .calls .preemption) 1)
       (λ p. let y : fromMetering Clear ≡ 7 = rw p at e in absurd (omega arith))
-      (λ p. some-of-wish (timingsOf x .vehicles) (g .vehicles-least) (g .vehicles-most) (decidedIn x s i .wish) wish-in (rw p at e))
+      (λ p. least-of-wish (timingsOf x .vehicles) (g .vehicles-least) (g .vehicles-most) (decidedIn x s i .wish) wish-in (rw p at e))
 
   pub tick-keeps : StateGood (acceptedTick x s i .state) (shapeOf x)
   unfolding acceptedTick movedIn countedIn
@@ -158,6 +160,15 @@ module _ (x : Site) (s : State) (i : Input) (a : Accepted x s i) where
   tick-bypassed =
       bypassed (timingsOf x) (timings-good x (a .site)) (i .calls) (decidedIn x s i .wish) (cycleIn x s i) (i .lanes) (s .group)
       (state-good s (shapeOf x) (a .state) .group)
+
+  -- The lane that it releases is the one that the request's words name.
+  pub tick-searched : Searched (timingsOf x) (acceptedTick x s i .cycle) (i .lanes) (s .group)
+      (record { group = acceptedTick x s i .state .group; released = acceptedTick x s i .released })
+  unfolding acceptedTick movedIn
+  tick-searched =
+      let ok = timings-good x (a .site) in
+      moved-searched (timingsOf x) (i .calls) (decidedIn x s i .wish) (cycleIn x s i) (i .lanes) (s .group) (ok .lanes-least) (ok .priority-most)
+      (ok .lanes-most) (omega (arith, ok .red-least)) (state-good s (shapeOf x) (a .state) .group) (λ on. (least-cycle on, cycle-in))
 
 -- Its interval is that of the request's words, under the wish that it gives.
 pub tick-steered : (x : Site) (s : State) (i : Input)

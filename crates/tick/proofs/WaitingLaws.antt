@@ -30,7 +30,7 @@ use Rattle.tick.specs.declared.Ticked.{Ticked}
 use Rattle.tick.specs.Tick.{decidedIn, cycleIn, movedIn, acceptedTick}
 use Rattle.tick.specs.Course.{Call, Course, atPowerUp, answerTo, isAccepted, onward, courseAfter, AtAccepted}
 use Rattle.tick.specs.Waiting.{Waits, greenBegins, beginsWithin, WaitingBound}
-use Rattle.tick.proofs.TickLaws.{cycle-in, some-cycle}
+use Rattle.tick.proofs.TickLaws.{cycle-in, least-cycle}
 use Rattle.tick.proofs.CourseLaws.{stays, sound, Going, before-part, passed, answer, keeps, group-is, released-is}
 
 -- What lane j shows.
@@ -91,7 +91,7 @@ module _ (x : Site) (ok : spoiltSite x ≡ false) where
       rank-falls e miss =
           rw (group-is x ok c call going same e)
           (group-falls (timingsOf x) (sound x ok) least j in-site (timings-good x ok .priority-most) (i .calls) (decidedIn x s i .wish) (cycleIn x s i) (i .lanes) (s .group) (going .good .group) (going .chain)
-          (omega arith) (some-cycle x s i (passed x ok c call going same e)) (cycle-small e) (demand-on e) (metering-after e) (none-after e) miss)
+          (omega arith) (λ on. omega (arith, least-cycle x s i (passed x ok c call going same e) on)) (cycle-small e) (demand-on e) (metering-after e) (none-after e) miss)
 
       -- and at one that does, its green begins.
       begins : (e : isAccepted c call ≡ true) → eqb (movedIn x s i .released) (j + 1) ≡ true → greenBegins (j + 1) c call ≡ true

@@ -7,6 +7,7 @@ ghost use Rattle.wanted.specs.Wish.{rateOf};
 ghost use Rattle.wanted.specs.Decision.{EntryInForce};
 ghost use Rattle.release.specs.Cycle.{cycleTicks};
 ghost use Rattle.group.specs.Steered.{Steered};
+ghost use Rattle.group.specs.Searched.{Searched};
 ghost use Rattle.serving.specs.Bypassed.{Bypassed};
 ghost use Rattle.state.specs.State.{stateSpoilt};
 ghost use Rattle.tick.specs.Checks.{sampleBad, inputRefusal, tickRefusal};
@@ -208,6 +209,7 @@ pub fn tick(site: Site, state: State, input: Input) -> Ticked
     ensures entry { λ r. ⌜ (r .refusal ≡ 0 → EntryInForce site (input .clock) (r .decision .entry)) ⌝ }
     ensures steered { λ r. ⌜ (r .refusal ≡ 0 → Steered (timingsOf site) (input .calls .preemption) (r .decision .wish) (state .group) (r .state .group .interval)) ⌝ }
     ensures cycled { λ r. ⌜ (r .refusal ≡ 0 → Cycled (timingsOf site .vehicles) (r .decision .wish) (r .cycle)) ⌝ }
+    ensures searched { λ r. ⌜ (r .refusal ≡ 0 → Searched (timingsOf site) (r .cycle) (input .lanes) (state .group) (record { group = r .state .group; released = r .released })) ⌝ }
     ensures bypassed { λ r. ⌜ (r .refusal ≡ 0 → Bypassed (timingsOf site) (input .calls) (r .decision .wish) (r .cycle) (input .lanes) (state .group) (record { group = r .state .group; released = r .released })) ⌝ }
     ensures waits { λ _. ⌜ WaitingBound site ⌝ }
     ensures clears { λ _. ⌜ PreemptionClears site ⌝ }

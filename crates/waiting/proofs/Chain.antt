@@ -2,14 +2,12 @@
 -- released lane's cycle counter equals the offset counter.
 use Prim.Native.Nat.{ℕ, _+_, _-_, _≤_, _<_}
 use mathlib.Core.Path.{_≡_, refl, sym, _∙_, ap}
-use mathlib.Core.Bool.{Bool, true, false, true≢false}
+use mathlib.Core.Bool.{Bool, true, false}
 use mathlib.Core.List.{List}
 use native.Mathlib.Omega.{arith}
-use borrow.Author.Tests.{eqb-true, eqb-false, eq-eqb, not-true}
+use borrow.Author.Tests.{eqb-true, eqb-false, eq-eqb}
 use lib.Dec.{eqb}
 use lib.ListN.{getD}
-use Rattle.loops.specs.Any.{anyFrom}
-use Rattle.loops.proofs.AnyLaws.{none-of}
 use Rattle.inputs.specs.declared.Metered.{Metered}
 use Rattle.inputs.specs.declared.Calls.{Calls}
 use Rattle.wanted.specs.declared.wish.Wish.{Wish}
@@ -21,8 +19,9 @@ use Rattle.lanes.specs.Intervals.{riseOf}
 use Rattle.lanes.specs.Lanes.{laneOf, lanesTick, lanesEntered}
 use Rattle.loops.proofs.Cases.{by-test}
 use Rattle.lanes.proofs.LaneLaws.{tick-counter, lane-in, offset-ticked, last-ticked, entered-in, offset-entered, last-entered}
-use Rattle.release.specs.Release.{anyGreen, mayRelease, releasedOf, releaseOf}
+use Rattle.release.specs.Release.{releasedOf, releaseOf}
 use Rattle.release.proofs.ReleaseLaws.{none-released, lane-goes, lane-stays, last-released, offset-released, released-in, may-release}
+use Rattle.release.proofs.FoundLaws.{possible}
 use Rattle.group.specs.declared.Group.{Group}
 use Rattle.bypass.specs.Lanes.{releasedFor}
 use Rattle.bypass.proofs.BypassLaws.{due, released-for, released-most}
@@ -70,13 +69,6 @@ module _ (t : Timings) (ok : Sound t) where
             ∙ sym (offset-entered n);
       }
 
-  -- Under mutual exclusion a lane is released where none is green.
-  none-green : (s : Lanes) (cycle : ℕ) → eqb (t .mode) 1 ≡ false → mayRelease t cycle s ≡ true → (i : ℕ) → i < t .lanes → laneOf s i .colour ≡ 3 → ⊥
-  unfolding mayRelease anyGreen
-  none-green s cycle m e i h c =
-      let none = not-true (anyFrom (λ i. eqb (laneOf s i .colour) 3) 0 (t .lanes)) (rw m at e) in
-      true≢false (sym (eq-eqb (laneOf s i .colour) 3 c) ∙ none-of (λ i. eqb (laneOf s i .colour) 3) 0 (t .lanes) none i (omega arith) (omega arith))
-
   -- A release that finds no other lane green keeps it:
   pub chain-release : (s : Lanes) (k : ℕ) → k ≤ t .lanes
       → (eqb k 0 ≡ false → eqb (t .mode) 1 ≡ false → (i : ℕ) → i < t .lanes → eqb k (i + 1) ≡ false → laneOf s i .colour ≡ 3 → ⊥)
@@ -94,10 +86,11 @@ module _ (t : Timings) (ok : Sound t) where
             ∙ sym (offset-released s k e);
       })
 
-  -- The ordinary release,
+  -- The ordinary release, which under mutual exclusion finds none green,
   pub chain-searched : (s : Lanes) (cycle : ℕ) (demand : List ℕ) → Chain t s → Chain t (releaseOf s (releasedOf t cycle demand s))
   chain-searched s cycle demand w =
-      chain-release s _ (released-in t cycle demand s (ok .least)) (λ e m i h _ c. none-green s cycle m (may-release t cycle demand s e) i h c) w
+      chain-release s _ (released-in t cycle demand s (ok .least))
+      (λ e m i h _. possible t cycle s (may-release t cycle demand s e) .exclusion (eqb-false (t .mode) 1 m) i h) w
 
   -- and that of a bypass, which finds all others red.
   chain-due : t .priority ≤ t .lanes → (s : Lanes) → Chain t s → Chain t (releaseOf s (releasedFor t s))

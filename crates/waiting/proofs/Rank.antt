@@ -5,7 +5,7 @@ use mathlib.Core.Bool.{Bool, true, false, cond, true≢false}
 use mathlib.Core.List.{List}
 use native.Mathlib.Omega.{arith}
 use native.Mathlib.Nat.{add-mul, one-mul, mul-one, mul-le-mul-left, mul-le-mul-right}
-use borrow.Author.Tests.{leb-true, leb-false, eqb-true, eq-eqb, ne-eqb, le-leb, not-false}
+use borrow.Author.Tests.{leb-true, leb-false, eqb-true, eqb-false, eq-eqb, ne-eqb, le-leb, not-false}
 use lib.Dec.{leb, eqb}
 use lib.ListN.{getD}
 use Rattle.loops.proofs.AnyLaws.{any-of-none}
@@ -17,10 +17,13 @@ use Rattle.lanes.specs.Lanes.{laneOf, endingOf, lanesTick}
 use Rattle.loops.proofs.Cases.{by-test}
 use Rattle.lanes.proofs.LaneLaws.{Within, rise-min, lane-in, offset-ticked, last-ticked}
 use Rattle.release.specs.Cycle.{roundedUp, offsetTicks}
-use Rattle.release.specs.Release.{anyGreen, mayRelease, readyAt, releasedOf, releaseOf}
-use Rattle.turns.proofs.TurnLaws.{turns, turns-in, turns-most, Nearer, first-nearer}
+use Rattle.release.specs.Release.{anyGreen, mayRelease, releasedOf, releaseOf}
+use Rattle.release.specs.Found.{ReadyLane}
+use Rattle.turns.specs.Turn.{turns}
+use Rattle.turns.proofs.TurnLaws.{turns-in, turns-most, nearer}
 use Rattle.release.proofs.CycleLaws.{up-most, up-least, up-grows}
-use Rattle.release.proofs.ReleaseLaws.{none-released, lane-stays, last-released, released-in, is-ready}
+use Rattle.release.proofs.ReleaseLaws.{none-released, lane-stays, last-released, released-in, none-found}
+use Rattle.release.proofs.FoundLaws.{possible, found}
 use Rattle.group.proofs.RangeLaws.{LanesGood, lanes-keep, lanes-release}
 use Rattle.waiting.specs.Bound.{turnTicks, waitingBound}
 use Rattle.waiting.proofs.LaneRank.{Sound, readyIn, greenFor, ready-falls, green-falls, due, due-parts, due-not-green, ready-in-most, green-most}
@@ -192,29 +195,28 @@ module _ (t : Timings) (ok : Sound t) (c : ℕ) (hc : c ≤ 720) (endings : Endi
     nearer-due : eqb k (j + 1) ≡ false → readyIn t c (laneOf after j) ≤ max 1 (readyIn t c (laneOf s j) - 1)
     nearer-due miss = rw (lane-after miss) (ready-falls t ok _ (laneOf s j) (getD passage j 0) (within (j + 1)) c hc)
 
-    -- Being due, and in demand, it is ready.
-    ready-now : getD demand j 0 ≡ 1 → readyIn t c (laneOf s j) ≤ 1 → readyAt t cycle demand s′ (j + 1) ≡ true
-    unfolding readyAt
+    -- Being due, and in demand, it is ready,
+    ready-now : getD demand j 0 ≡ 1 → readyIn t c (laneOf s j) ≤ 1 → ReadyLane t cycle demand s′ (j + 1)
     ready-now d r =
         let back : j + 1 - 1 ≡ j = omega arith in
         let p = due t ok (endingOf endings (j + 1)) (laneOf s j) (getD passage j 0) c hc (v .inside j place hj) r in
-        rw (back, lane-in t endings s passage j place hj)
-        (is-ready t cycle (getD demand j 0) (laneTick t (endingOf endings (j + 1)) (laneOf s j) (getD passage j 0))
-        (record { red = p .0; long = p .1 .0; wanted = d; cycled = omega (arith, p .1 .1) }))
+        record {
+          least = omega arith;
+          most = omega arith;
+          ready = rw (back, lane-in t endings s passage j place hj) (record { red = p .0; long = p .1 .0; wanted = d; cycled = omega (arith, p .1 .1) });
+        }
 
-    released-nearer : mayRelease t cycle s′ ≡ true → readyAt t cycle demand s′ (j + 1) ≡ true → Nearer (t .lanes) (s .last) (j + 1) k
-    unfolding releasedOf
-    released-nearer may r =
+    -- and another that is found is nearer to it than the one released before.
+    released-nearer : mayRelease t cycle s′ ≡ true → ReadyLane t cycle demand s′ (j + 1) → eqb k (j + 1) ≡ false
+        → (1 ≤ k) × (turns (t .lanes) k (j + 1) < turns (t .lanes) (s .last) (j + 1))
+    released-nearer may r miss =
         let u = good-ticked in
-        let found : Nearer (t .lanes) (s′ .last) (j + 1) (releasedOf t cycle demand s′) =
-        rw may
-        (first-nearer (readyAt t cycle demand s′) (t .lanes) (s′ .last) (j + 1) (t .lanes) (u .least) (u .most) (omega arith) (omega arith) r
-        (turns-in (t .lanes) (s′ .last) (j + 1) (u .least) (u .most) (omega arith) (omega arith) .1)) in
-        subst (λ (a : ℕ). Nearer (t .lanes) a (j + 1) (releasedOf t cycle demand s′)) (last-ticked t endings s passage) found
-
-    none-now : mayRelease t cycle s′ ≡ false → k ≡ 0
-    unfolding releasedOf
-    none-now may = rw may
+        let f = found t cycle demand s′ (u .least) (u .most) in
+        let some : k ≡ 0 → ⊥ = f .some (possible t cycle s′ may) (j + 1) r in
+        let one : 1 ≤ k = omega (arith, some) in
+        let first = f .first some (j + 1) r (λ z. eqb-false k (j + 1) miss (sym z)) in
+        let near = nearer (t .lanes) (s′ .last) k (j + 1) (u .least) (u .most) one (released-in t cycle demand s′ (ok .least)) (omega arith) (omega arith) first in
+        (one, subst (λ (a : ℕ). turns (t .lanes) k (j + 1) < turns (t .lanes) a (j + 1)) (last-ticked t endings s passage) near)
 
     -- Once the lane is due, either another is released, a turn nearer, or the time until one may be falls.
     due-falls : getD demand j 0 ≡ 1 → readyIn t c (laneOf s j) ≤ 1 → eqb k (j + 1) ≡ false → dueRank t c j after < dueRank t c j s
@@ -222,15 +224,14 @@ module _ (t : Timings) (ok : Sound t) (c : ℕ) (hc : c ≤ 720) (endings : Endi
     due-falls d r miss =
         let x = turnTicks t c in
         by-test (mayRelease t cycle s′)
-        (λ may. let q = released-nearer may (ready-now d r) in
-        let some : eqb k 0 ≡ false = ne-eqb k 0 (λ z. omega (arith, q .some)) in
-        let near = q .nearer miss in
-        let inside = turns-in (t .lanes) k (j + 1) (q .some) (released-in t cycle demand s′ (ok .least)) (omega arith) (omega arith) in
+        (λ may. let q = released-nearer may (ready-now d r) miss in
+        let some : eqb k 0 ≡ false = ne-eqb k 0 (λ z. omega (arith, q .0)) in
+        let inside = turns-in (t .lanes) k (j + 1) (q .0) (released-in t cycle demand s′ (ok .least)) (omega arith) (omega arith) in
         let here : turns (t .lanes) (after .last) (j + 1) ≡ turns (t .lanes) k (j + 1) = ap (λ a. turns (t .lanes) a (j + 1)) (last-released s′ k some) in
         rw here
         (turn-nearer x (gapOf t c after) (gapOf t c s) (turns (t .lanes) k (j + 1)) (turns (t .lanes) (s .last) (j + 1)) turn-some
-        (gap-most t ok c after) (inside .0) near))
-        (λ may. let none : releaseOf s′ k ≡ s′ = none-released s′ k (eq-eqb k 0 (none-now may)) in
+        (gap-most t ok c after) (inside .0) (q .1)))
+        (λ may. let none : releaseOf s′ k ≡ s′ = none-released s′ k (eq-eqb k 0 (none-found t cycle demand s′ may)) in
         let here : turns (t .lanes) (s′ .last) (j + 1) ≡ turns (t .lanes) (s .last) (j + 1) = ap (λ a. turns (t .lanes) a (j + 1)) (last-ticked t endings s passage) in
         rw (none, here) (omega (arith, gap-falls cycle hcycle may)))
       where

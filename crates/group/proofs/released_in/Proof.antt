@@ -10,14 +10,14 @@ released-requires c κs = search needs
 
 returns : tie.Need-returns
 unfolding releasedIn
-returns c = rw (c .before .if1 .taken) (c .released .ensures)
+returns c = rw (c .before .if1 .taken) (c .released .ensures .0)
 
 released-requires-2 : tie.Need-released-requires-2
 released-requires-2 c κs = search needs
 
 returns-2 : tie.Need-returns-2
 unfolding releasedIn
-returns-2 c = rw (c .before .before .if1 .left, eq-eqb _ _ (c .before .if2 .taken)) (c .released2 .ensures)
+returns-2 c = rw (c .before .before .if1 .left, eq-eqb _ _ (c .before .if2 .taken)) (c .released2 .ensures .0)
 
 returns-3 : tie.Need-returns-3
 unfolding releasedIn

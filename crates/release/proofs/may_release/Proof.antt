@@ -5,15 +5,12 @@ use borrow.Author.Needs.{needs}
 use Rattle.release.proofs.may_release.Statement.{statement}
 use Rattle.release.proofs.may_release.Tie as tie
 
-offset-ticks-requires : tie.Need-offset-ticks-requires
-offset-ticks-requires c κs = search needs
-
-cast-result : tie.Need-cast-result
-cast-result c = search needs
+offset-is-up-requires : tie.Need-offset-is-up-requires
+offset-is-up-requires c κs = search needs
 
 returns : tie.Need-returns
 unfolding mayRelease
-returns c = rw (eq-eqb _ _ (c .before .before .if1 .taken), c .before .offset-ticks .ensures)
+returns c = rw (eq-eqb _ _ (c .before .if1 .taken), c .offset-is-up .ensures)
 
 any-green-requires : tie.Need-any-green-requires
 any-green-requires c κs = search needs
@@ -24,4 +21,4 @@ returns-2 c = rw (ne-eqb _ _ (c .before .if1 .left), c .any-green .ensures)
 
 pub may-release-spec : {M : Type 1} → statement M
 may-release-spec =
-    tie.close (tie.spec offset-ticks-requires cast-result returns any-green-requires returns-2)
+    tie.close (tie.spec offset-is-up-requires returns any-green-requires returns-2)

@@ -215,18 +215,27 @@ impl Group {
     // Release.
 
     /// Under a bypass: the priority lane, red at least the minimum, once the others are red.
-    fn priority_in_turn(&self, t: &Timings) -> Option<usize> {
+    pub fn priority_in_turn(&self, t: &Timings) -> Option<usize> {
         let rested = self.lanes[t.priority_lane - 1].rested(t);
         (rested && self.all_red()).then_some(t.priority_lane)
     }
 
-    /// In metering alone, the first ready lane from the one after the last released, if the mode allows one.
+    /// In metering alone, what the search finds at the tick's one cycle.
     fn lane_in_turn(&self, t: &Timings, w: &Wanted) -> Option<usize> {
         let cycle = w.cycle?;
-        if self.interval != Metering || !self.mode_allows(t, cycle) {
+        if self.interval != Metering {
             return None;
         }
-        self.in_turn().find(|lane| self.lanes[lane - 1].ready(t, w.demand[lane - 1], cycle))
+        self.search(t, cycle, &w.demand)
+    }
+
+    /// The first ready lane from the one after the last released, if the mode allows one. The cycle is a plain number here, whatever rate
+    /// it came from.
+    pub fn search(&self, t: &Timings, cycle: u16, demand: &[bool]) -> Option<usize> {
+        if !self.mode_allows(t, cycle) {
+            return None;
+        }
+        self.in_turn().find(|lane| self.lanes[lane - 1].ready(t, demand[lane - 1], cycle))
     }
 
     fn release(&mut self, lane: usize) {

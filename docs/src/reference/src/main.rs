@@ -1,4 +1,5 @@
-//! Document 01 in plain Rust, with the preemption, the nearest cycle, the plans past midnight and the bus bypass of document 02.
+//! Document 01 in plain Rust, with the preemption, the nearest cycle, the plans past midnight, the bus bypass and the one cycle per
+//! tick of document 02.
 //! `reference NAME` writes test inputs and what they should give:
 //!
 //! - `site-bounds stdin`, `site-bounds stdout`: the files of `crates/site_bounds`.
@@ -17,6 +18,7 @@
 //! - `replay-cases stdin`, `replay-cases stdout`: the runs of `crates/replay_cases`, and what it prints.
 //! - `replay-files FOLDER`: the files that it reads.
 //! - `rate-sheet`: what `crates/rate_sheet` prints.
+//! - `release-check`: what `crates/release_check` prints.
 //! - `paper-site`: the site file of `crates/timetable`.
 //! - `timetable-cases stdout`: what `crates/timetable_cases` prints.
 //! - `timetable-files FOLDER`: the files that it reads.
@@ -48,6 +50,7 @@ mod random_replay;
 mod rate_sheet;
 mod record;
 mod refusal_cases;
+mod release_check;
 mod replay;
 mod replay_files;
 mod replay_lines;
@@ -179,6 +182,7 @@ fn main() -> Result<()> {
         ["replay-cases", "stdout"] => out.write_all(replay_files::answers().as_bytes()),
         ["replay-files", folder] => replay_files::write(folder),
         ["rate-sheet"] => out.write_all(rate_sheet::print().as_bytes()),
+        ["release-check"] => out.write_all(release_check::print().as_bytes()),
         ["paper-site"] => out.write_all(&site::bytes(&timetable_files::paper())),
         ["timetable-cases", "stdout"] => out.write_all(timetable_files::answers().as_bytes()),
         ["timetable-files", folder] => timetable_files::write(folder),
