@@ -1,4 +1,5 @@
 pub mod Dates
 pub mod Days
 pub mod Holidays
+pub mod Named
 pub mod Clock

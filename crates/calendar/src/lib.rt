@@ -4,7 +4,10 @@ mod day;
 
 use day::Day;
 ghost use mathlib.Core.Path.{_≡_};
-ghost use Rattle.calendar.specs.Holidays.{rowOf, isFixed, inWeek, isNamed, isHoliday, dayTypeOf};
+ghost use mathlib.Core.Bool.{true};
+ghost use Rattle.calendar.specs.Dates.{isDate};
+ghost use Rattle.calendar.specs.Holidays.{rowOf, isFixed, isMoving, inWeek, isNamed, isHoliday, dayTypeOf};
+ghost use Rattle.calendar.specs.Named.{Typed};
 pub use clock::BAD_CLOCK;
 pub use clock::Clock;
 pub use clock::LAST_TENTH;
@@ -29,6 +32,11 @@ const FLOATING: u16 = 2;
 
 const DAY_AFTER: u16 = 3;
 
+// The fifth number of a fixed date that moves to the next day when it is a Sunday.
+const MOVING: u16 = 1;
+
+const SUNDAY: u16 = 0;
+
 // Week 5 means the final such weekday.
 const FINAL_WEEK: u16 = 5;
 
@@ -40,6 +48,8 @@ struct Row {
     // the day of the month, or the week
     nth: u16,
     weekday: u16,
+    // 1 for a fixed date that moves to the next day when it is a Sunday
+    moves: u16,
 }
 
 // Holiday i of a site's rows, the first being 0.
@@ -48,12 +58,13 @@ fn row_at(rows: &[u16], i: u16) -> Row
 {
     let at = (i as usize) * ranges::HOLIDAY_WIDTH;
     // one look at the length for a row that is there whole
-    if at + 3 < rows.len() {
+    if at + 4 < rows.len() {
         return Row {
             kind: rows[at],
             month: rows[at + 1],
             nth: rows[at + 2],
             weekday: rows[at + 3],
+            moves: rows[at + 4],
         };
     }
     Row {
@@ -61,6 +72,7 @@ fn row_at(rows: &[u16], i: u16) -> Row
         month: numbers::number_at(rows, at + 1),
         nth: numbers::number_at(rows, at + 2),
         weekday: numbers::number_at(rows, at + 3),
+        moves: numbers::number_at(rows, at + 4),
     }
 }
 
@@ -72,6 +84,15 @@ fn is_fixed(day: Day, row: Row) -> bool
         return false;
     }
     day.day == row.nth
+}
+
+// Whether the row's date is today and no Sunday, or was yesterday and a Sunday.
+fn is_moving(today: Day, yesterday: Day, row: Row) -> bool
+    ensures { λ r. ⌜ r ≡ isMoving today yesterday row ⌝ }
+{
+    let itself = is_fixed(today, row);
+    let day_after = is_fixed(yesterday, row);
+    (itself & (today.weekday != SUNDAY)) | (day_after & (yesterday.weekday == SUNDAY))
 }
 
 // Whether the row's month and week are this day's.
@@ -92,6 +113,9 @@ fn is_named(today: Day, yesterday: Day, row: Row) -> bool
     ensures { λ r. ⌜ r ≡ isNamed today yesterday row ⌝ }
 {
     if row.kind == FIXED {
+        if row.moves == MOVING {
+            return is_moving(today, yesterday, row);
+        }
         return is_fixed(today, row);
     }
     if row.kind == FLOATING {
@@ -125,7 +149,8 @@ fn is_holiday(today: Day, yesterday: Day, rows: &[u16], count: u16) -> bool
 
 // The day type of a date at a site with these holidays.
 pub fn day_type(date: Date, rows: &[u16], count: u16) -> u16
-    ensures { λ r. ⌜ r ≡ dayTypeOf date (now (rows .entry)) count ⌝ }
+    ensures is { λ r. ⌜ r ≡ dayTypeOf date (now (rows .entry)) count ⌝ }
+    ensures named { λ r. ⌜ (isDate date ≡ true → Typed date (now (rows .entry)) count r) ⌝ }
 {
     if !is_date(date) {
         return NO_DAY;

@@ -1,5 +1,5 @@
 // Checks the calendar on every day from 1 January 2000 to 31 December 2099 against a walk from day
-// to day, and prints how many answers of each sort were compared.
+// to day, and prints how many answers of each sort were compared, and how many were Holiday.
 mod tally;
 mod walk;
 
@@ -14,56 +14,68 @@ const ROWS: u16 = 420;
 // A site's holidays are 0 to 16.
 const COUNTS: u16 = 17;
 
-// Twelve holidays of all kinds; the last is 29 February.
-const LIST: [u16; 48] = [
+// Twelve holidays of all kinds; 1 January, 31 March and 29 February, the last, move.
+const LIST: [u16; 60] = [
     1,
     1,
     1,
     0,
+    1,
     2,
     1,
     3,
     1,
+    0,
     2,
     2,
     3,
     1,
+    0,
     1,
     3,
     31,
     0,
+    1,
     2,
     5,
     5,
     1,
+    0,
     1,
     7,
     4,
+    0,
     0,
     2,
     9,
     1,
     1,
+    0,
     1,
     11,
     11,
+    0,
     0,
     2,
     11,
     4,
     4,
+    0,
     3,
     11,
     4,
     4,
+    0,
     1,
     12,
     25,
+    0,
     0,
     1,
     2,
     29,
     0,
+    1,
 ];
 
 // Where the walk stands before a day.
@@ -78,13 +90,14 @@ fn truth(b: bool) -> u16 {
 }
 
 // Row k of this kind.
-fn row_of(kind: u16, k: u16) -> Row {
+fn row_of(kind: u16, moves: u16, k: u16) -> Row {
     if kind == 1 {
         return Row {
             kind,
             month: k / 35 + 1,
             nth: k % 35 + 1,
             weekday: 0,
+            moves,
         };
     }
     Row {
@@ -92,22 +105,24 @@ fn row_of(kind: u16, k: u16) -> Row {
         month: k / 35 + 1,
         nth: k / 7 % 5 + 1,
         weekday: k % 7,
+        moves,
     }
 }
 
 fn list_row(list: &[u16], i: u16) -> Row {
-    let at = (i as usize) * 4;
+    let at = (i as usize) * 5;
     Row {
         kind: numbers::number_at(list, at),
         month: numbers::number_at(list, at + 1),
         nth: numbers::number_at(list, at + 2),
         weekday: numbers::number_at(list, at + 3),
+        moves: numbers::number_at(list, at + 4),
     }
 }
 
 // The calendar's answer with this row alone.
 fn day_type(date: Date, row: Row) -> u16 {
-    let rows = [row.kind, row.month, row.nth, row.weekday];
+    let rows = [row.kind, row.month, row.nth, row.weekday, row.moves];
     calendar::day_type(date, &rows, 1)
 }
 
@@ -126,6 +141,7 @@ fn check_no_date(year: u16, month: u16, day: u16, tally: Tally) -> Tally {
         month,
         nth: day,
         weekday: 0,
+        moves: 0,
     };
     let t = tally::compared(tally, date, day_type(date, row), calendar::NO_DAY);
     check_date(date, 0, t)
@@ -133,19 +149,36 @@ fn check_no_date(year: u16, month: u16, day: u16, tally: Tally) -> Tally {
 
 // Without holidays.
 fn check_plain(date: Date, today: Place, tally: Tally) -> Tally {
-    let rows = [0u16; 4];
+    let rows = [0u16; 5];
     let came = calendar::day_type(date, &rows, 0);
-    tally::counted(tally::compared(tally, date, came, today.weekday), 0)
+    let mut t = tally::compared(tally, date, came, today.weekday);
+    t.plain = tally::one_more(t.plain);
+    t
+}
+
+// With this row alone.
+fn check_row(date: Date, today: Place, yesterday: Place, row: Row, tally: Tally) -> Tally {
+    let came = day_type(date, row);
+    let t = tally::compared(tally, date, came, walk::due(row, today, yesterday));
+    let named = came == calendar::HOLIDAY;
+    if row.moves == 1 {
+        return tally::counted_moving(t, named, named & !walk::is_fixed(row, today));
+    }
+    tally::counted(t, row.kind, named)
 }
 
 // With one row of this kind, each in turn.
-fn check_rows(date: Date, today: Place, yesterday: Place, kind: u16, tally: Tally) -> Tally {
+fn check_rows(
+    date: Date,
+    today: Place,
+    yesterday: Place,
+    kind: u16,
+    moves: u16,
+    tally: Tally,
+) -> Tally {
     let mut t = tally;
     for k in 0..ROWS {
-        let row = row_of(kind, k);
-        let came = day_type(date, row);
-        t = tally::compared(t, date, came, walk::due(row, today, yesterday));
-        t = tally::counted(t, kind);
+        t = check_row(date, today, yesterday, row_of(kind, moves, k), t);
     }
     t
 }
@@ -156,8 +189,9 @@ fn check_lists(date: Date, today: Place, yesterday: Place, tally: Tally) -> Tall
     let mut t = tally;
     let mut due = today.weekday;
     for count in 0..COUNTS {
-        t = tally::compared(t, date, calendar::day_type(date, &list, count), due);
-        t.lists = tally::one_more(t.lists);
+        let came = calendar::day_type(date, &list, count);
+        t = tally::compared(t, date, came, due);
+        t.lists = tally::one_answer(t.lists, came == calendar::HOLIDAY);
         if walk::names(list_row(&list, count), today, yesterday) {
             due = calendar::HOLIDAY;
         }
@@ -179,9 +213,10 @@ fn check_day(date: Date, today: Place, yesterday: Place, tally: Tally) -> Tally 
     let dated = check_date(date, 1, tally);
     let before = check_before(date, yesterday, dated);
     let plain = check_plain(date, today, before);
-    let fixed = check_rows(date, today, yesterday, 1, plain);
-    let floating = check_rows(date, today, yesterday, 2, fixed);
-    let after = check_rows(date, today, yesterday, 3, floating);
+    let fixed = check_rows(date, today, yesterday, 1, 0, plain);
+    let moving = check_rows(date, today, yesterday, 1, 1, fixed);
+    let floating = check_rows(date, today, yesterday, 2, 0, moving);
+    let after = check_rows(date, today, yesterday, 3, 0, floating);
     check_lists(date, today, yesterday, after)
 }
 

@@ -20,6 +20,8 @@ pub struct Row {
     pub month: u16,
     pub nth: u16,
     pub weekday: u16,
+    // 1 for a fixed date that moves
+    pub moves: u16,
 }
 
 pub fn next_weekday(weekday: u16) -> u16 {
@@ -92,11 +94,30 @@ pub fn placed(
     }
 }
 
-fn is_fixed(row: Row, place: Place) -> bool {
+// Whether this is the row's month and day.
+pub fn is_fixed(row: Row, place: Place) -> bool {
     if place.month != row.month {
         return false;
     }
     place.day == row.nth
+}
+
+// A fixed date that moves: never a Sunday, and on a Monday also yesterday's date.
+fn is_moving(row: Row, today: Place, yesterday: Place) -> bool {
+    let weekday = today.weekday;
+    match weekday {
+        0 => false,
+        1 => is_fixed(row, today) | is_fixed(row, yesterday),
+        _ => is_fixed(row, today),
+    }
+}
+
+// A fixed date, which moves or not.
+fn is_dated(row: Row, today: Place, yesterday: Place) -> bool {
+    if row.moves == 1 {
+        return is_moving(row, today, yesterday);
+    }
+    is_fixed(row, today)
 }
 
 fn is_floating(row: Row, place: Place) -> bool {
@@ -116,7 +137,7 @@ fn is_floating(row: Row, place: Place) -> bool {
 pub fn names(row: Row, today: Place, yesterday: Place) -> bool {
     let kind = row.kind;
     match kind {
-        1 => is_fixed(row, today),
+        1 => is_dated(row, today, yesterday),
         2 => is_floating(row, today),
         3 => is_floating(row, yesterday),
         _ => false,

@@ -1,5 +1,6 @@
 // What is decided, asked for: by whoever wants to know, at a state as it stands.
 ghost use mathlib.Core.Path.{_≡_};
+ghost use Rattle.calendar.specs.Named.{Typed};
 ghost use Rattle.wanted.specs.Decision.{EntryInForce};
 ghost use Rattle.decide.specs.Decide.{firstRefusal, refusalOf, decidedOf};
 use calendar::Clock;
@@ -48,6 +49,7 @@ fn refusal_of(site: Site, state: State, clock: Clock, manual: Command, centre: C
 // What is decided, or why it is not: the decision then has no day and no entry, and is dark.
 pub fn decide(site: Site, state: State, clock: Clock, manual: Command, centre: Command) -> Decided
     ensures is { λ r. ⌜ r ≡ decidedOf site state clock manual centre ⌝ }
+    ensures day { λ r. ⌜ (r .refusal ≡ 0 → Typed (clock .date) (site .dates) (site .holidays) (r .decision .day)) ⌝ }
     ensures entry { λ r. ⌜ (r .refusal ≡ 0 → EntryInForce site clock (r .decision .entry)) ⌝ }
 {
     let refusal = refusal_of(site, state, clock, manual, centre);

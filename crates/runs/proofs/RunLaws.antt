@@ -1,16 +1,12 @@
--- It happens in time: where something is kept by every call, refused ones change nothing, and a rank falls at each accepted call at which it
--- does not happen, it happens within more accepted calls than the rank. And what it brings about, if every call keeps that, lasts.
+-- It happens in time: where something is kept by every call, refused ones change nothing, and a rank falls at each accepted call at which
+-- it does not happen, it happens within more accepted calls than the rank. And what it brings about, if every call keeps that, lasts.
 use Prim.Native.Nat.{ℕ, zero, suc, _+_, _≤_, _<_}
-use mathlib.Core.Path.{_≡_, refl, sym}
-use mathlib.Core.Bool.{Bool, true, false, _&&_, _||_, true≢false}
+use mathlib.Core.Path.{_≡_, sym}
+use mathlib.Core.Bool.{Bool, true, false, _&&_, true≢false}
 use mathlib.Core.List.{List, [], _∷_, _++_}
 use native.Mathlib.Omega.{arith}
-use Rattle.loops.proofs.Cases.{by-test}
+use Rattle.loops.proofs.Cases.{by-test, or-else}
 use Rattle.runs.specs.Runs.{after, AtEach, acceptedIn, happensWithin}
-
-pub or-else : (a : Bool) {b : Bool} → b ≡ true → (a || b) ≡ true
-or-else true h = refl
-or-else false h = h
 
 pub one-less : {k y : ℕ} → suc k ≤ 1 + y → k ≤ y
 one-less h = omega arith

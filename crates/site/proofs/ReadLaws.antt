@@ -3,11 +3,11 @@ use Prim.Native.Nat.{ℕ, _*_}
 use mathlib.Core.Path.{_≡_}
 use mathlib.Core.List.{List}
 use borrow.Author.Tests.{eq-eqb, ne-eqb}
-use lib.ListN.{length, replicate}
+use lib.ListN.{length}
 use Rattle.numbers.specs.Words.{words}
 use Rattle.ranges.specs.declared.Section.the-variants.{Timings, Entries, Holidays, Levels}
 use Rattle.site.specs.declared.Found.{Found}
-use Rattle.site.specs.Reading.{sectionOf, refused, filledOf, readOf}
+use Rattle.site.specs.Reading.{sectionOf, noneOf, refused, filledOf, readOf}
 
 module _ (s : List ℕ) (a : Found) (ea : a ≡ sectionOf Timings (length s) (words s) 0) where
   pub refused-0 : (a .refusal ≡ 0 → ⊥) → readOf s ≡ refused (a .refusal) (a .place)
@@ -40,13 +40,13 @@ module _ (s : List ℕ) (a : Found) (ea : a ≡ sectionOf Timings (length s) (wo
                 refusal = 0;
                 place = 0;
                 site = record {
-                  timings = filledOf Timings (words s) 0 (replicate 17 0);
+                  timings = filledOf Timings (words s) 0 (noneOf Timings);
                   entries = b .count;
-                  plan = filledOf Entries (words s) (a .next) (replicate 80 0);
+                  plan = filledOf Entries (words s) (a .next) (noneOf Entries);
                   holidays = h .count;
-                  dates = filledOf Holidays (words s) (b .next) (replicate 64 0);
+                  dates = filledOf Holidays (words s) (b .next) (noneOf Holidays);
                   levels = l .count;
-                  tables = filledOf Levels (words s) (h .next) (replicate 120 0);
+                  tables = filledOf Levels (words s) (h .next) (noneOf Levels);
                 };
               }
           unfolding readOf

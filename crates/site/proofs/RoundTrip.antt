@@ -1,6 +1,6 @@
 -- Writing and reading undo each other. Both directions rest on one law per section, whatever stands before and behind it in the file.
 use Prim.Native.Nat.{ℕ, zero, suc, _+_, _*_, _≤_, _<_}
-use mathlib.Core.Path.{_≡_, refl, ap, ap₂, sym, _∙_}
+use mathlib.Core.Path.{_≡_, refl, ap, ap₂, sym, subst, _∙_}
 use mathlib.Core.Bool.{Bool, true, false, not, false≢true}
 use mathlib.Core.List.{List, [], _∷_, _++_, append-nil}
 use native.Mathlib.Omega.{arith}
@@ -19,7 +19,7 @@ use Rattle.site.specs.declared.Found.{Found}
 use Rattle.site.specs.declared.Site.{Site}
 use Rattle.site.specs.declared.ReadSite.{ReadSite}
 use Rattle.site.specs.Record.{spoiltOf, spoiltSite}
-use Rattle.site.specs.Reading.{numbersOf, filledOf, sectionOf, readOf}
+use Rattle.site.specs.Reading.{numbersOf, filledOf, sectionOf, noneOf, readOf}
 use Rattle.site.specs.Writing.{partOf, wordsOf, bytesOf}
 use Rattle.site.proofs.Sizes.{fits, Sized}
 use Rattle.site.proofs.SpoiltLaws.{Sound, SoundSite, sound-site, spoilt-rest}
@@ -124,7 +124,7 @@ module _ (x : Site) (sized : Sized x) (ok : spoiltSite x ≡ false) where
     site = record { timings = t; entries = x .entries; plan = e; holidays = x .holidays; dates = h; levels = x .levels; tables = l };
   }
 
-  rows-given : given (filledOf Timings ws 0 (replicate 17 0)) (filledOf Entries ws 18 (replicate 80 0)) (filledOf Holidays ws q₂ (replicate 64 0)) (filledOf Levels ws q₃ (replicate 120 0))
+  rows-given : given (filledOf Timings ws 0 (noneOf Timings)) (filledOf Entries ws 18 (noneOf Entries)) (filledOf Holidays ws q₂ (noneOf Holidays)) (filledOf Levels ws q₃ (noneOf Levels))
       ≡ record { refusal = 0; place = 0; site = x }
   rows-given =
       rw (
@@ -145,7 +145,7 @@ module _ (x : Site) (sized : Sized x) (ok : spoiltSite x ≡ false) where
       _ (back Holidays q₂ _ (section-back Holidays (x .holidays) (x .dates) (s .dates) (sized .dates) ws q₂ levels at₂ (length f))) refl
       _ (back Levels q₃ _ (section-back Levels (x .levels) (x .tables) (s .tables) (sized .tables) ws q₃ [] at₃ (length f))) refl
       file-end
-      ∙ ap (λ (l : List ℕ). given (filledOf Timings l 0 (replicate 17 0)) (filledOf Entries l 18 (replicate 80 0)) (filledOf Holidays l q₂ (replicate 64 0)) (filledOf Levels l q₃ (replicate 120 0))) w
+      ∙ ap (λ (l : List ℕ). given (filledOf Timings l 0 (noneOf Timings)) (filledOf Entries l 18 (noneOf Entries)) (filledOf Holidays l q₂ (noneOf Holidays)) (filledOf Levels l q₃ (noneOf Levels))) w
       ∙ rows-given
 
 -- The numbers of an accepted section, with 0 after them, are written as they stood, and are not spoilt.
@@ -232,13 +232,13 @@ module _ (f : List ℕ) where
 
     abbrev back : Site
     back = record {
-      timings = filledOf Timings (words f) 0 (replicate 17 0);
+      timings = filledOf Timings (words f) 0 (noneOf Timings);
       entries = e .count;
-      plan = filledOf Entries (words f) (t .next) (replicate 80 0);
+      plan = filledOf Entries (words f) (t .next) (noneOf Entries);
       holidays = h .count;
-      dates = filledOf Holidays (words f) (e .next) (replicate 64 0);
+      dates = filledOf Holidays (words f) (e .next) (noneOf Holidays);
       levels = l .count;
-      tables = filledOf Levels (words f) (h .next) (replicate 120 0);
+      tables = filledOf Levels (words f) (h .next) (noneOf Levels);
     }
 
     is-back : readOf f ≡ record { refusal = 0; place = 0; site = back }
@@ -259,6 +259,27 @@ module _ (f : List ℕ) where
     end-is : length (words f) * 2 ≡ length f
     end-is = omega (arith, words-low f, g₃ .whole, is-whole .end, ap (λ (y : Found). y .next) (g₃ .is))
 
+    -- Where its holidays begin, and where it ends.
+    abbrev q : ℕ
+    q = 19 + getD (words f) 18 0 * 5
+
+    entries-at : t .next ≡ 18
+    entries-at = ap (λ (y : Found). y .next) (g₀ .is) ∙ ap (λ (n : ℕ). 1 + n * 1) (sym count₀)
+
+    holidays-at : e .next ≡ q
+    holidays-at = ap (λ (y : Found). y .next) (g₁ .is) ∙ ap (λ (i : ℕ). i + 1 + getD (words f) i 0 * 5) entries-at ∙ omega arith
+
+    pub holidays-accepted : Accepted Holidays (length f) (words f) q
+    holidays-accepted = subst (λ (i : ℕ). Accepted Holidays (length f) (words f) i) holidays-at g₂
+
+    levels-at : h .next ≡ q + 1 + getD (words f) q 0 * 5
+    levels-at = ap (λ (y : Found). y .next) (g₂ .is) ∙ ap (λ (i : ℕ). i + 1 + getD (words f) i 0 * 5) holidays-at
+
+    pub ends-at : let i = q + 1 + getD (words f) q 0 * 5 in length (words f) ≡ i + 1 + getD (words f) i 0 * 5
+    ends-at =
+        let last : l .next ≡ length (words f) = omega (arith, end-is, is-whole .end) in
+        sym last ∙ ap (λ (y : Found). y .next) (g₃ .is) ∙ ap (λ (i : ℕ). i + 1 + getD (words f) i 0 * 5) levels-at
+
     nothing-left : drop (h .next + 1 + sizeOf Levels (getD (words f) (h .next) 0)) (words f) ≡ []
     nothing-left = drop-of-length-le (words f) {i = h .next + 1 + sizeOf Levels (getD (words f) (h .next) 0)} (omega (arith, end-is, is-whole .end, ap (λ (y : Found). y .next) (g₃ .is)))
 
@@ -274,11 +295,11 @@ module _ (f : List ℕ) where
     words-again : wordsOf back ≡ words f
     unfolding wordsOf
     words-again =
-        from Timings 17 0 17 (t .next) _ g₀ count₀ (ap (λ (y : Found). y .next) (g₀ .is))
-        (from Entries (e .count) (t .next) 80 (e .next) _ g₁ count₁ (ap (λ (y : Found). y .next) (g₁ .is))
-        (from Holidays (h .count) (e .next) 64 (h .next) _ g₂ count₂ (ap (λ (y : Found). y .next) (g₂ .is))
+        from Timings 17 0 (mostOf Timings) (t .next) _ g₀ count₀ (ap (λ (y : Found). y .next) (g₀ .is))
+        (from Entries (e .count) (t .next) (mostOf Entries) (e .next) _ g₁ count₁ (ap (λ (y : Found). y .next) (g₁ .is))
+        (from Holidays (h .count) (e .next) (mostOf Holidays) (h .next) _ g₂ count₂ (ap (λ (y : Found). y .next) (g₂ .is))
         (sym (append-nil (partOf Levels (l .count) (back .tables)))
-        ∙ from Levels (l .count) (h .next) 120 (h .next + 1 + sizeOf Levels (getD (words f) (h .next) 0)) [] g₃ count₃ refl (sym nothing-left))))
+        ∙ from Levels (l .count) (h .next) (mostOf Levels) (h .next + 1 + sizeOf Levels (getD (words f) (h .next) 0)) [] g₃ count₃ refl (sym nothing-left))))
 
     not-spoilt : spoiltSite back ≡ false
     unfolding spoiltSite
@@ -287,10 +308,10 @@ module _ (f : List ℕ) where
           count₁,
           count₂,
           count₃,
-          ap (λ (n : ℕ). spoiltOf Timings n (back .timings)) count₀ ∙ unspoilt Timings (length f) (words f) 0 17 g₀,
-          unspoilt Entries (length f) (words f) (t .next) 80 g₁,
-          unspoilt Holidays (length f) (words f) (e .next) 64 g₂,
-          unspoilt Levels (length f) (words f) (h .next) 120 g₃,
+          ap (λ (n : ℕ). spoiltOf Timings n (back .timings)) count₀ ∙ unspoilt Timings (length f) (words f) 0 (mostOf Timings) g₀,
+          unspoilt Entries (length f) (words f) (t .next) (mostOf Entries) g₁,
+          unspoilt Holidays (length f) (words f) (e .next) (mostOf Holidays) g₂,
+          unspoilt Levels (length f) (words f) (h .next) (mostOf Levels) g₃,
         )
 
     -- The record of an accepted file is not spoilt, and its file is that file, byte for byte.

@@ -24,7 +24,7 @@ no-longer Holidays = omega arith
 no-longer Levels = omega arith
 
 pub record Sized (x : Site) : Type 0 where
-  pub timings : length (x .timings) ≡ 17
-  pub plan : length (x .plan) ≡ 80
-  pub dates : length (x .dates) ≡ 64
-  pub tables : length (x .tables) ≡ 120
+  pub timings : length (x .timings) ≡ mostOf Timings
+  pub plan : length (x .plan) ≡ mostOf Entries
+  pub dates : length (x .dates) ≡ mostOf Holidays
+  pub tables : length (x .tables) ≡ mostOf Levels

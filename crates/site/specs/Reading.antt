@@ -41,6 +41,13 @@ sectionOf k len ws q =
 abbrev pub noneOf : Section → List ℕ
 noneOf k = replicate (mostOf k) 0
 
+-- The most numbers that a site file can have: a count and the most rows of each section. The longest file has two bytes for each.
+abbrev pub mostNumbers : ℕ
+mostNumbers = 4 + mostOf Timings + mostOf Entries + mostOf Holidays + mostOf Levels
+
+abbrev pub longestFile : ℕ
+longestFile = mostNumbers * 2
+
 -- "A site record of zeros."
 abbrev pub noSite : Site
 noSite = record {

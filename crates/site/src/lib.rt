@@ -16,7 +16,7 @@ pub struct Site {
     // how many plan entries, and their rows of 5: days, start, mode, rate, table
     pub entries: u16,
     pub plan: [u16; ranges::MOST_ENTRY_NUMBERS],
-    // how many holidays, and their rows of 4: kind, month, day or week, weekday
+    // how many holidays, and their rows of 5: kind, month, day or week, weekday, Sunday move
     pub holidays: u16,
     pub dates: [u16; ranges::MOST_HOLIDAY_NUMBERS],
     // how many levels, and their rows of 5: table, flow, occupancy, speed, rate

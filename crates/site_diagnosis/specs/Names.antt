@@ -28,7 +28,7 @@ nameText Timings i =
     item (ascii "lanes,service mode,vehicles per green,minimum green,maximum green,yellow,minimum red,startup warning,startup green,startup yellow,startup red,shutdown red,maximum pre-metering green,minimum pre-metering green,mainline lanes,priority lane,bypass timeout")
     i
 nameText Entries i = item (ascii "days,start minute,mode,rate,level table") (columnOf Entries i)
-nameText Holidays i = item (ascii "kind,month,day or week,weekday") (columnOf Holidays i)
+nameText Holidays i = item (ascii "kind,month,day or week,weekday,Sunday move") (columnOf Holidays i)
 nameText Levels i = item (ascii "table,flow,occupancy,speed,rate") (columnOf Levels i)
 
 -- Number i, by its row, counted from 1, and its name: `plan entry 2, start minute`.

@@ -48,7 +48,7 @@ fn put_name(out: &mut [u8], at: usize, section: Section, i: usize) -> usize
         Section::Holidays => text::put_item(
             out,
             at,
-            b"kind,month,day or week,weekday",
+            b"kind,month,day or week,weekday,Sunday move",
             i % ranges::HOLIDAY_WIDTH,
         ),
         Section::Levels => text::put_item(

@@ -23,8 +23,15 @@ pub const WRONG_COUNT: u8 = 2;
 // Bytes follow the last section.
 pub const LONG_FILE: u8 = 7;
 
-// One more than the longest site file has.
-pub const FRONT: usize = 571;
+// The most numbers that a site file can have: a count and the most rows of each section.
+const MOST_NUMBERS: usize = 4
+    + ranges::MOST_TIMING_NUMBERS
+    + ranges::MOST_ENTRY_NUMBERS
+    + ranges::MOST_HOLIDAY_NUMBERS
+    + ranges::MOST_LEVEL_NUMBERS;
+
+// One byte more than the longest site file has.
+pub const FRONT: usize = MOST_NUMBERS * 2 + 1;
 
 // How many bytes of a file's front are enough: what reading them gives is what reading the file does.
 pub fn front() -> usize

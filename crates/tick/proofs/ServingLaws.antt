@@ -7,8 +7,8 @@ use native.Mathlib.Omega.{arith}
 use borrow.Author.Tests.{eqb-true, eq-eqb, lt-ltb}
 use lib.Dec.{eqb}
 use lib.ListN.{getD}
-use Rattle.runs.proofs.RunLaws.{or-else, one-less, both-run, until, reached, endures}
-use Rattle.loops.proofs.Cases.{by-test, both-true}
+use Rattle.runs.proofs.RunLaws.{one-less, both-run, until, reached, endures}
+use Rattle.loops.proofs.Cases.{by-test, both-true, or-else}
 use Rattle.site.specs.declared.Site.{Site}
 use Rattle.site.specs.Record.{spoiltSite}
 use Rattle.site.specs.Named.{timingsOf, meteredLanes}

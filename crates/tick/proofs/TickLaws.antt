@@ -11,6 +11,7 @@ use Rattle.site.specs.Record.{spoiltSite}
 use Rattle.site.specs.Named.{timingsOf, meteredLanes, mainlineLanes, shapeOf}
 use Rattle.site.proofs.TimingLaws.{timings-good}
 use Rattle.calendar.specs.Clock.{clockBad}
+use Rattle.calendar.specs.Named.{Typed}
 use Rattle.inputs.specs.Samples.{samplesBad, callsBad}
 use Rattle.inputs.specs.Commands.{commandsBad}
 use Rattle.period.proofs.RangeLaws.{periods-released}
@@ -18,7 +19,7 @@ use Rattle.wanted.specs.declared.wish.Wish.{Wish}
 use Rattle.wanted.specs.declared.wish.Wish.the-variants.{Dark, Green, Metering, Clear}
 use Rattle.wanted.specs.Wish.{rateOf}
 use Rattle.wanted.specs.Decision.{EntryInForce, decisionOf}
-use Rattle.wanted.proofs.EntryLaws.{entry-is}
+use Rattle.wanted.proofs.EntryLaws.{day-is, entry-is}
 use Rattle.wanted.proofs.RateLaws.{WishGood, wish-good, rate-cases}
 use Rattle.release.specs.Cycle.{cycleTicks}
 use Rattle.release.proofs.CycleLaws.{cycle-nearest, cycle-most, cycle-least, no-cycle}
@@ -109,7 +110,11 @@ module _ (x : Site) (s : State) (i : Input) (a : Accepted x s i) where
   unfolding decidedIn
   wish-in = wish-good x (a .site) (i .clock) (i .manual) (i .centre) (countedIn x s i) (a .commands)
 
-  -- Its entry is in force in the request's words.
+  -- Its day type and its entry are those of the requests' words.
+  pub tick-day : Typed (i .clock .date) (x .dates) (x .holidays) (acceptedTick x s i .decision .day)
+  unfolding acceptedTick decidedIn decisionOf
+  tick-day = day-is x (i .clock) (a .clock)
+
   pub tick-entry : EntryInForce x (i .clock) (acceptedTick x s i .decision .entry)
   unfolding acceptedTick decidedIn decisionOf
   tick-entry = entry-is x (i .clock) (a .site) (a .clock)

@@ -4,6 +4,7 @@ ghost use Prim.Native.Nat.{_≤_};
 ghost use mathlib.Core.Bool.{false};
 ghost use Rattle.site.specs.Named.{timingsOf, shapeOf};
 ghost use Rattle.wanted.specs.Wish.{rateOf};
+ghost use Rattle.calendar.specs.Named.{Typed};
 ghost use Rattle.wanted.specs.Decision.{EntryInForce};
 ghost use Rattle.release.specs.Cycle.{cycleTicks};
 ghost use Rattle.group.specs.Steered.{Steered};
@@ -206,6 +207,7 @@ fn refused(site: Site, state: State, refusal: u8) -> Ticked
 pub fn tick(site: Site, state: State, input: Input) -> Ticked
     ensures is { λ r. ⌜ r ≡ tickOf site state input ⌝ }
     ensures kept { λ r. ⌜ (r .refusal ≡ 0 → stateSpoilt (r .state) (shapeOf site) ≡ false) ⌝ }
+    ensures day { λ r. ⌜ (r .refusal ≡ 0 → Typed (input .clock .date) (site .dates) (site .holidays) (r .decision .day)) ⌝ }
     ensures entry { λ r. ⌜ (r .refusal ≡ 0 → EntryInForce site (input .clock) (r .decision .entry)) ⌝ }
     ensures steered { λ r. ⌜ (r .refusal ≡ 0 → Steered (timingsOf site) (input .calls .preemption) (r .decision .wish) (state .group) (r .state .group .interval)) ⌝ }
     ensures cycled { λ r. ⌜ (r .refusal ≡ 0 → Cycled (timingsOf site .vehicles) (r .decision .wish) (r .cycle)) ⌝ }

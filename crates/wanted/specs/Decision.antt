@@ -1,10 +1,15 @@
--- Document 01, 'Day and entry', 'What is wanted', and document 02, 'Plans that run past midnight': what a clock, two commands and the
--- periods decide at a site.
+-- Document 01, 'Day and entry', 'What is wanted', and document 02, 'Plans that run past midnight' and 'Cesar Chavez Day': what a clock, two
+-- commands and the periods decide at a site.
 use Prim.Native.Nat.{ℕ, _/_, _≤_, _<_}
+use mathlib.Core.Path.{_≡_}
+use mathlib.Core.Bool.{true}
 use Rattle.site.specs.declared.Site.{Site}
 use Rattle.site.specs.Named.{mainlineLanes}
 use Rattle.calendar.specs.declared.clock.Clock.{Clock}
+use Rattle.calendar.specs.declared.day.Date.{Date}
+use Rattle.calendar.specs.Dates.{isDate}
 use Rattle.calendar.specs.Holidays.{noDay, dayTypeOf}
+use Rattle.calendar.specs.Named.{Typed}
 use Rattle.plan.specs.Entry.{entryOf}
 use Rattle.plan.specs.InForce.{inForceOf, InForce}
 use Rattle.plan.specs.PastMidnight.{lastMinute, inForceNow, InForceNow}
@@ -33,6 +38,9 @@ pub record EntryInForce (x : Site) (clock : Clock) (place : ℕ) : Type 0 where
   pub latest : (day minute : ℕ) → InForce (x .plan) (x .entries) day minute (inForceOf (x .plan) (x .entries) day minute)
   -- and at a day's end each entry of it has begun.
   pub begun : (i : ℕ) → i < x .entries → entryOf (x .plan) i .start ≤ lastMinute
+  -- And the day type by which these go, of each date, in the words of both documents; of the one that they give, `decide` and the tick
+  -- promise the same (`day`).
+  pub typed : (date : Date) → isDate date ≡ true → Typed date (x .dates) (x .holidays) (dayTypeOf date (x .dates) (x .holidays))
 
 unfoldable pub commandInForce : Site → Clock → Command → Command → Command
 commandInForce x clock manual centre = rulingOf (sourceOf manual centre) manual centre (plannedOf (x .plan) (entryInForce x clock))

@@ -39,16 +39,16 @@ use Rattle.calendar.specs.Clock.{clockBad}
 use Rattle.calendar.specs.Dates.{daysBefore, monthLength, isDate, lastOf, dayBefore, dayNumber, weekdayOf}
 use Rattle.site.specs.Record.{spoiltOf, spoiltSite}
 use Rattle.numbers.specs.Within.{isWithin}
-use Rattle.ranges.specs.Ranges.{timingRange, rateRange, tableRange, entryRange, dayOrWeekRange, weekdayRange, holidayRange}
+use Rattle.ranges.specs.Ranges.{timingRange, rateRange, tableRange, entryRange, dayOrWeekRange, weekdayRange, moveRange, holidayRange, levelRange}
 use Rattle.ranges.specs.Sections.{rangeOf, isGood}
 use Rattle.site.specs.Reading.{sectionOf, readOf}
 use Rattle.site.specs.Writing.{wordsOf}
 use Rattle.calendar.specs.Days.{inMonth, todayOf, yesterdayOf}
-use Rattle.calendar.specs.Holidays.{isFloating, inWeek, dayTypeOf, isNamed, isFixed}
+use Rattle.calendar.specs.Holidays.{isFloating, inWeek, dayTypeOf, isNamed, isFixed, isMoving}
 use Rattle.levels.specs.Measures.{totalsOf, measuresOf}
 use Rattle.levels.specs.Levels.{reachesOf, isSlow, isMet}
 
 -- To unfold this is to unfold what its line names.
 unfoldable pub computing : Unit {0}
-unfolding clearingTicks clears isPreMetering isHeld steeredWish ordinaryInterval sampleBad callsBad isWaiting isWaitingBut waitsAsItBegins isCalling othersTicks servingTicks beginsBypass isServed waitingBound turnTicks atPowerUp answerTo isAccepted onward greenBegins allDark toNearest cycleTicks roundedUp dayTypeOf isDate daysBefore monthLength dayNumber weekdayOf inMonth todayOf lastOf dayBefore yesterdayOf isFloating inWeek isFixed isNamed measuresOf totalsOf goodOf isMet reachesOf isSlow wordsOf readOf sectionOf isGood rangeOf timingRange isWithin stateAfter answerAt releasesFrom releases inputRefusal tickRefusal timingsOf powerUpOf countedIn decidedIn cycleIn movedIn acceptedTick refusedTick tickOf stateSpoilt freshState allRed intervalOf bypassIn lanesIn releasedIn groupOf lanesMoved movedWith movedOf colourShown lowerShown signShown laneShown indicationsOf ageOf timeOf successorOf nextInterval colourSpoilt laneSpoilt laneKept laneSpoiltAt lanesSpoilt groupSpoilt riseOf passagesOf greenEnds greenAt yellowAt laneTick laneOf lanesOf endingOf laneTickAt lanesTick laneEntered lanesEntered laterOf isTimeUp beginsAt endsAt keptOf markOf timerOf bypassOf placeOf priorityOf hasPassed endingsOf otherNotRed othersRed hasBeenRed releasedFor doingOf bypassSpoilt offsetTicks isReady readyAt anyGreen mayRelease nextOf releasedOf greenIf releaseOf speedOf timedOf laneCounted laneCountedAt passagesAt countedOf nextSerial closedOf afterTick greensAt greenCounted afterRelease noPeriods countsLaneSpoilt countsLaneKept countsLaneSpoiltAt meteredSpoilt meteredKept meteredSpoiltAt countsSpoilt lastTicks periodsSpoilt dayOf onDay applies takesOver inForceOf inForceNow entryInForce entryRange dayOrWeekRange weekdayRange holidayRange commandInForce decisionOf plannedOf sourceOf choiceOf meteredBad laneBad samplesBad carriesNothing commandBad commandsBad clockBad spoiltOf spoiltSite rateRange tableRange
+unfolding clearingTicks clears isPreMetering isHeld steeredWish ordinaryInterval sampleBad callsBad isWaiting isWaitingBut waitsAsItBegins isCalling othersTicks servingTicks beginsBypass isServed waitingBound turnTicks atPowerUp answerTo isAccepted onward greenBegins allDark toNearest cycleTicks roundedUp dayTypeOf isDate daysBefore monthLength dayNumber weekdayOf inMonth todayOf lastOf dayBefore yesterdayOf isFloating inWeek isFixed isMoving isNamed measuresOf totalsOf goodOf isMet reachesOf isSlow wordsOf readOf sectionOf isGood rangeOf timingRange isWithin stateAfter answerAt releasesFrom releases inputRefusal tickRefusal timingsOf powerUpOf countedIn decidedIn cycleIn movedIn acceptedTick refusedTick tickOf stateSpoilt freshState allRed intervalOf bypassIn lanesIn releasedIn groupOf lanesMoved movedWith movedOf colourShown lowerShown signShown laneShown indicationsOf ageOf timeOf successorOf nextInterval colourSpoilt laneSpoilt laneKept laneSpoiltAt lanesSpoilt groupSpoilt riseOf passagesOf greenEnds greenAt yellowAt laneTick laneOf lanesOf endingOf laneTickAt lanesTick laneEntered lanesEntered laterOf isTimeUp beginsAt endsAt keptOf markOf timerOf bypassOf placeOf priorityOf hasPassed endingsOf otherNotRed othersRed hasBeenRed releasedFor doingOf bypassSpoilt offsetTicks isReady readyAt anyGreen mayRelease nextOf releasedOf greenIf releaseOf speedOf timedOf laneCounted laneCountedAt passagesAt countedOf nextSerial closedOf afterTick greensAt greenCounted afterRelease noPeriods countsLaneSpoilt countsLaneKept countsLaneSpoiltAt meteredSpoilt meteredKept meteredSpoiltAt countsSpoilt lastTicks periodsSpoilt dayOf onDay applies takesOver inForceOf inForceNow entryInForce entryRange dayOrWeekRange weekdayRange moveRange holidayRange levelRange commandInForce decisionOf plannedOf sourceOf choiceOf meteredBad laneBad samplesBad carriesNothing commandBad commandsBad clockBad spoiltOf spoiltSite rateRange tableRange
 computing = tt

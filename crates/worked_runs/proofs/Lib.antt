@@ -5,3 +5,4 @@ pub mod Preemption
 pub mod NearestCycle
 pub mod PastMidnight
 pub mod Bus
+pub mod MovedHolidays

@@ -1,4 +1,4 @@
--- The runs marked * of document 01, with document 02's cycles and bytes: all by computation.
+-- The runs marked * of document 01, with document 02's cycles, bytes and dates: all by computation.
 use mathlib.Core.Path.{refl}
 use Rattle.worked_runs.specs.Starred.{Starred}
 use Rattle.worked_runs.proofs.Computing.{computing}
@@ -14,6 +14,12 @@ starred = record {
   day-after = refl;
   not-the-fourth-friday = refl;
   final-monday = refl;
+  march-sunday = refl;
+  april-holiday = refl;
+  december-sunday = refl;
+  january-holiday = refl;
+  february-sunday = refl;
+  march-holiday = refl;
   flow-31 = refl;
   below-1260 = refl;
   flow-32 = refl;

@@ -6,7 +6,6 @@ use mathlib.Core.Path.{_≡_}
 use mathlib.Core.Bool.{Bool, true, false, not, _&&_}
 use mathlib.Core.List.{List, [], _∷_, _++_}
 use lib.Dec.{eqb}
-use lib.ListN.{replicate}
 use Rattle.site.specs.declared.Site.{Site}
 use Rattle.site.specs.Named.{timingsOf}
 use Rattle.group.specs.Intervals.{fromMetering}
@@ -16,19 +15,12 @@ use Rattle.tick.specs.declared.Input.{Input}
 use Rattle.tick.specs.Course.{Call, Course, atPowerUp, answerTo, courseAfter}
 use Rattle.tick.specs.Waiting.{beginsWithin}
 use Rattle.tick.specs.Serving.{beginsBypass, servedWithin}
+use Rattle.worked_runs.specs.SiteA.{timed}
 use Rattle.worked_runs.specs.Run.{meteringUnder, meteringAt, isWaitingBut, throughout, waitsThroughout, calls}
 
 -- So many lanes, in a service mode, with greens of this length and this minimum red.
 abbrev pub laneSite : ℕ → ℕ → ℕ → ℕ → Site
-laneSite lanes mode green minred = record {
-  timings = lanes ∷ mode ∷ 1 ∷ green ∷ green ∷ 10 ∷ minred ∷ 10 ∷ 10 ∷ 10 ∷ 10 ∷ 10 ∷ 1 ∷ 1 ∷ 1 ∷ 1 ∷ 0 ∷ [];
-  entries = 0;
-  plan = replicate 80 0;
-  holidays = 0;
-  dates = replicate 64 0;
-  levels = 0;
-  tables = replicate 120 0;
-}
+laneSite lanes mode green minred = timed (lanes ∷ mode ∷ 1 ∷ green ∷ green ∷ 10 ∷ minred ∷ 10 ∷ 10 ∷ 10 ∷ 10 ∷ 10 ∷ 1 ∷ 1 ∷ 1 ∷ 1 ∷ 0 ∷ [])
 
 abbrev pub busSite : ℕ → ℕ → ℕ → Site
 busSite = laneSite 2

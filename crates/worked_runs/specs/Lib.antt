@@ -7,3 +7,4 @@ pub mod Preemption
 pub mod NearestCycle
 pub mod PastMidnight
 pub mod Bus
+pub mod MovedHolidays

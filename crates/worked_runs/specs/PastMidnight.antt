@@ -3,9 +3,10 @@ use Prim.Native.Nat.{ℕ, _-_, _/_}
 use mathlib.Core.Path.{_≡_}
 use mathlib.Core.List.{List, [], _∷_, _++_}
 use lib.ListN.{length, replicate}
-use Rattle.ranges.specs.declared.Section.the-variants.{Entries, Holidays}
+use Rattle.ranges.specs.declared.Section.the-variants.{Entries, Holidays, Levels}
 use Rattle.ranges.specs.Sections.{widthOf, mostOf}
 use Rattle.site.specs.declared.Site.{Site}
+use Rattle.site.specs.Reading.{noneOf}
 use Rattle.tick.specs.declared.Input.{Input}
 use Rattle.tick.specs.declared.Ticked.{Ticked}
 use Rattle.worked_runs.specs.SiteA.{leastSite}
@@ -31,7 +32,7 @@ siteOf starts dates = record {
   holidays = length dates / widthOf Holidays;
   dates = padded (mostOf Holidays) dates;
   levels = 0;
-  tables = replicate 120 0;
+  tables = noneOf Levels;
 }
 
 -- No command, at this tenth of a date.
@@ -58,14 +59,15 @@ abbrev pub fridays : Site
 fridays = siteOf ((32, 360) ∷ []) []
 
 abbrev pub fridaysBut14 : Site
-fridaysBut14 = siteOf ((32, 360) ∷ []) (1 ∷ 1 ∷ 14 ∷ 0 ∷ [])
+fridaysBut14 = siteOf ((32, 360) ∷ []) (1 ∷ 1 ∷ 14 ∷ 0 ∷ 0 ∷ [])
 
--- Each day from 06:00 on its own entry, from Sunday's, 1, to Saturday's, 7, and that of holidays, 8; Thanksgiving and 28 February are
--- holidays.
+-- Each day from 06:00 on its own entry, from Sunday's, 1, to Saturday's, 7, and that of holidays, 8.
+abbrev pub everyDay : List Start
+everyDay = (1, 360) ∷ (2, 360) ∷ (4, 360) ∷ (8, 360) ∷ (16, 360) ∷ (32, 360) ∷ (64, 360) ∷ (128, 360) ∷ []
+
+-- The same; Thanksgiving and 28 February are holidays.
 abbrev pub eachDay : Site
-eachDay =
-    siteOf ((1, 360) ∷ (2, 360) ∷ (4, 360) ∷ (8, 360) ∷ (16, 360) ∷ (32, 360) ∷ (64, 360) ∷ (128, 360) ∷ [])
-    (2 ∷ 11 ∷ 4 ∷ 4 ∷ 1 ∷ 2 ∷ 28 ∷ 0 ∷ [])
+eachDay = siteOf everyDay (2 ∷ 11 ∷ 4 ∷ 4 ∷ 0 ∷ 1 ∷ 2 ∷ 28 ∷ 0 ∷ 0 ∷ [])
 
 -- Mondays at 06:00, and two entries at 19:30.
 abbrev pub mondays : Site

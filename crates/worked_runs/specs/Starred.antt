@@ -1,5 +1,5 @@
--- Document 01, 'Worked runs': the runs marked *, with the cycles that document 02's A2 gives and the bytes that its A4 gives, in the
--- definitions that the calls' contracts cite. One proof, `starred`, shows them all.
+-- Document 01, 'Worked runs': the runs marked *, with the cycles that document 02's A2 gives, the bytes that its A4 gives and the dates of
+-- its A6, in the definitions that the calls' contracts cite. One proof, `starred`, shows them all.
 use Prim.Native.Nat.{ℕ}
 use mathlib.Core.Path.{_≡_}
 use mathlib.Core.Bool.{true, false}
@@ -43,10 +43,18 @@ pub record Starred : Type 0 where
   pub cycle-150 : cycleTicks 3 150 ≡ 720
   pub cycle-1600 : cycleTicks 1 1600 ≡ 23
   -- "28 November 2024 is fourth Thursday, 29 its day after. 26 May 2025 is final Monday."
-  pub fourth-thursday : dayTypeOf (date 2024 11 28) (2 ∷ 11 ∷ 4 ∷ 4 ∷ []) 1 ≡ 7
-  pub day-after : dayTypeOf (date 2024 11 29) (3 ∷ 11 ∷ 4 ∷ 4 ∷ []) 1 ≡ 7
-  pub not-the-fourth-friday : dayTypeOf (date 2024 11 22) (3 ∷ 11 ∷ 4 ∷ 4 ∷ []) 1 ≡ 5
-  pub final-monday : dayTypeOf (date 2025 5 26) (2 ∷ 5 ∷ 5 ∷ 1 ∷ []) 1 ≡ 7
+  pub fourth-thursday : dayTypeOf (date 2024 11 28) (2 ∷ 11 ∷ 4 ∷ 4 ∷ 0 ∷ []) 1 ≡ 7
+  pub day-after : dayTypeOf (date 2024 11 29) (3 ∷ 11 ∷ 4 ∷ 4 ∷ 0 ∷ []) 1 ≡ 7
+  pub not-the-fourth-friday : dayTypeOf (date 2024 11 22) (3 ∷ 11 ∷ 4 ∷ 4 ∷ 0 ∷ []) 1 ≡ 5
+  pub final-monday : dayTypeOf (date 2025 5 26) (2 ∷ 5 ∷ 5 ∷ 1 ∷ 0 ∷ []) 1 ≡ 7
+  -- Document 02, A6: "With it set, 1 April 2024 is the holiday", and the day before an ordinary Sunday; so from 31 December 2023 to the new
+  -- year, and from 29 February 2032.
+  pub march-sunday : dayTypeOf (date 2024 3 31) (1 ∷ 3 ∷ 31 ∷ 0 ∷ 1 ∷ []) 1 ≡ 0
+  pub april-holiday : dayTypeOf (date 2024 4 1) (1 ∷ 3 ∷ 31 ∷ 0 ∷ 1 ∷ []) 1 ≡ 7
+  pub december-sunday : dayTypeOf (date 2023 12 31) (1 ∷ 12 ∷ 31 ∷ 0 ∷ 1 ∷ []) 1 ≡ 0
+  pub january-holiday : dayTypeOf (date 2024 1 1) (1 ∷ 12 ∷ 31 ∷ 0 ∷ 1 ∷ []) 1 ≡ 7
+  pub february-sunday : dayTypeOf (date 2032 2 29) (1 ∷ 2 ∷ 29 ∷ 0 ∷ 1 ∷ []) 1 ≡ 0
+  pub march-holiday : dayTypeOf (date 2032 3 1) (1 ∷ 2 ∷ 29 ∷ 0 ∷ 1 ∷ []) 1 ≡ 7
   -- "31 vehicles on 3 lanes: flow 1240, below 1260; 32: 1280, met."
   pub flow-31 : measuresOf (totalsOf (threeLanes 10 10 11) 3) .flow ≡ 1240
   pub below-1260 : isMet (flowLevel 1260) (measuresOf (totalsOf (threeLanes 10 10 11) 3)) ≡ false

@@ -1,4 +1,4 @@
--- The four numbers of the row, read at once or one by one.
+-- The five numbers of the row, read at once or one by one.
 use borrow.Author.Needs.{needs}
 use Rattle.calendar.proofs.row_at.Statement.{statement}
 use Rattle.calendar.proofs.row_at.Tie as tie
@@ -42,6 +42,15 @@ mul-t19 c = search needs
 shared-slice-read-t21 : tie.Need-shared-slice-read-t21
 shared-slice-read-t21 c = search needs
 
+add-t22 : tie.Need-add-t22
+add-t22 c = search needs
+
+mul-t23 : tie.Need-mul-t23
+mul-t23 c = search needs
+
+shared-slice-read-t25 : tie.Need-shared-slice-read-t25
+shared-slice-read-t25 c = search needs
+
 returns : tie.Need-returns
 returns c = search needs
 
@@ -66,8 +75,21 @@ add-number-at-3 c = search needs
 number-at-requires-4 : tie.Need-number-at-requires-4
 number-at-requires-4 c κs = search needs
 
+add-number-at-4 : tie.Need-add-number-at-4
+add-number-at-4 c = search needs
+
+number-at-requires-5 : tie.Need-number-at-requires-5
+number-at-requires-5 c κs = search needs
+
 returns-2 : tie.Need-returns-2
-returns-2 c = simp (c .number-at4 .ensures, c .before .number-at3 .ensures, c .before .before .number-at2 .ensures, c .before .before .before .number-at .ensures)
+returns-2 c =
+    simp (
+      c .number-at5 .ensures,
+      c .before .number-at4 .ensures,
+      c .before .before .number-at3 .ensures,
+      c .before .before .before .number-at2 .ensures,
+      c .before .before .before .before .number-at .ensures,
+    )
 
 pub row-at-spec : {M : Type 1} → statement M
 row-at-spec =
@@ -86,6 +108,9 @@ row-at-spec =
     add-t18
     mul-t19
     shared-slice-read-t21
+    add-t22
+    mul-t23
+    shared-slice-read-t25
     returns
     number-at-requires
     add-number-at
@@ -94,4 +119,6 @@ row-at-spec =
     number-at-requires-3
     add-number-at-3
     number-at-requires-4
+    add-number-at-4
+    number-at-requires-5
     returns-2)

@@ -22,8 +22,8 @@ day-type-requires c κs = search needs
 compared-requires : tie.Need-compared-requires Inv-loop μ-loop
 compared-requires c κs = search needs
 
-one-more-requires : tie.Need-one-more-requires Inv-loop μ-loop
-one-more-requires c κs = search needs
+one-answer-requires : tie.Need-one-answer-requires Inv-loop μ-loop
+one-answer-requires c κs = search needs
 
 slice-aggregate-list-row : tie.Need-slice-aggregate-list-row Inv-loop μ-loop
 slice-aggregate-list-row c = search needs
@@ -56,7 +56,7 @@ check-lists-spec =
     slice-aggregate-day-type
     day-type-requires
     compared-requires
-    one-more-requires
+    one-answer-requires
     slice-aggregate-list-row
     list-row-requires
     names-requires

@@ -5,10 +5,10 @@ use Rattle.calendar_check.proofs.check_rows.Statement.{statement}
 use Rattle.calendar_check.proofs.check_rows.Tie as tie
 
 abbrev Inv-loop : tie.InvT-loop
-Inv-loop date today yesterday kind t₀ k₀ t k = Unit {0}
+Inv-loop date today yesterday kind moves t₀ k₀ t k = Unit {0}
 
 abbrev μ-loop : tie.MeasureT-loop
-μ-loop date today yesterday kind t₀ k₀ t k = 420 - k
+μ-loop date today yesterday kind moves t₀ k₀ t k = 420 - k
 
 loop-holds : tie.Need-loop-holds Inv-loop μ-loop
 loop-holds c = search needs
@@ -16,17 +16,8 @@ loop-holds c = search needs
 row-of-requires : tie.Need-row-of-requires Inv-loop μ-loop
 row-of-requires c κs = search needs
 
-day-type-requires : tie.Need-day-type-requires Inv-loop μ-loop
-day-type-requires c κs = search needs
-
-due-requires : tie.Need-due-requires Inv-loop μ-loop
-due-requires c κs = search needs
-
-compared-requires : tie.Need-compared-requires Inv-loop μ-loop
-compared-requires c κs = search needs
-
-counted-requires : tie.Need-counted-requires Inv-loop μ-loop
-counted-requires c κs = search needs
+check-row-requires : tie.Need-check-row-requires Inv-loop μ-loop
+check-row-requires c κs = search needs
 
 add-k : tie.Need-add-k Inv-loop μ-loop
 add-k c = search needs
@@ -48,10 +39,7 @@ check-rows-spec =
     μ-loop
     loop-holds
     row-of-requires
-    day-type-requires
-    due-requires
-    compared-requires
-    counted-requires
+    check-row-requires
     add-k
     loop-less
     loop-again

@@ -3,7 +3,7 @@ use Rattle.calendar.specs.Clock.{clockBad}
 use Rattle.site.specs.Record.{spoiltSite}
 use Rattle.wanted.specs.Decision.{decisionOf}
 use Rattle.wanted.proofs.ClockLaws.{tenth-good}
-use Rattle.wanted.proofs.EntryLaws.{entry-is}
+use Rattle.wanted.proofs.EntryLaws.{day-is, entry-is}
 use Rattle.decide.proofs.AcceptedLaws.{accepted}
 use Rattle.decide.specs.Decide.{decidedOf}
 use mathlib.Core.Bool.{false}
@@ -21,7 +21,7 @@ no-decision-requires c κs = search needs
 
 returns : tie.Need-returns
 unfolding decidedOf
-returns c = (rw (← c .before .before .refusal-of .ensures, ne-eqb _ _ (c .before .if1 .taken), c .no-decision .ensures), (λ z. absurd (c .before .if1 .taken z)))
+returns c = (rw (← c .before .before .refusal-of .ensures, ne-eqb _ _ (c .before .if1 .taken), c .no-decision .ensures), ((λ z. absurd (c .before .if1 .taken z)), (λ z. absurd (c .before .if1 .taken z))))
 
 in-range : (c : tie.Else1)
     → let a = c .before .before .args in (spoiltSite (a .site) ≡ false) × (clockBad (a .clock) ≡ false)
@@ -38,7 +38,10 @@ returns-2 c =
     let e = c .before .before in
     let a = e .before .before .args in (
       rw (← e .before .refusal-of .ensures, e .if1 .left, c .wanted-now .ensures),
-      (λ _. rw (c .wanted-now .ensures) (entry-is (a .site) (a .clock) (in-range e .0) (in-range e .1))),
+      (
+        (λ _. rw (c .wanted-now .ensures) (day-is (a .site) (a .clock) (in-range e .1))),
+        (λ _. rw (c .wanted-now .ensures) (entry-is (a .site) (a .clock) (in-range e .0) (in-range e .1))),
+      ),
     )
 
 pub decide-spec : {M : Type 1} → statement M

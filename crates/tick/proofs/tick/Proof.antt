@@ -1,7 +1,7 @@
 -- The checks, then the refused or the accepted tick.
 use Rattle.tick.specs.declared.Ticked.{Ticked}
 use Rattle.tick.specs.Tick.{refusedTick, tickOf}
-use Rattle.tick.proofs.TickLaws.{accepted, tick-entry, tick-steered, tick-cycle, tick-searched, tick-bypassed}
+use Rattle.tick.proofs.TickLaws.{accepted, tick-day, tick-entry, tick-steered, tick-cycle, tick-searched, tick-bypassed}
 use Rattle.tick.proofs.ServingLaws.{over-lists}
 use borrow.Author.Tests.{ne-eqb, eq-eqb}
 use mathlib.Core.Path.{_≡_, ap, sym, _∙_}
@@ -24,7 +24,10 @@ returns c =
       rw (← r .refusal-of .ensures, ne-eqb _ _ (c .before .if1 .taken)) (c .refused .ensures),
       (
         (λ z. absurd (never z)),
-        ((λ z. absurd (never z)), ((λ z. absurd (never z)), ((λ z. absurd (never z)), ((λ z. absurd (never z)), ((λ z. absurd (never z)), over-lists _))))),
+        (
+          (λ z. absurd (never z)),
+          ((λ z. absurd (never z)), ((λ z. absurd (never z)), ((λ z. absurd (never z)), ((λ z. absurd (never z)), ((λ z. absurd (never z)), over-lists _))))),
+        ),
       ),
     )
 
@@ -41,14 +44,17 @@ returns-2 c =
       (
         (λ _. c .advance .ensures .1),
         (
-          (λ _. rw (c .advance .ensures .0) (tick-entry (a .site) (a .state) (a .input) passed)),
+          (λ _. rw (c .advance .ensures .0) (tick-day (a .site) (a .state) (a .input) passed)),
           (
-            (λ _. rw (c .advance .ensures .0) (tick-steered (a .site) (a .state) (a .input))),
+            (λ _. rw (c .advance .ensures .0) (tick-entry (a .site) (a .state) (a .input) passed)),
             (
-              (λ _. rw (c .advance .ensures .0) (tick-cycle (a .site) (a .state) (a .input) passed)),
+              (λ _. rw (c .advance .ensures .0) (tick-steered (a .site) (a .state) (a .input))),
               (
-                (λ _. rw (c .advance .ensures .0) (tick-searched (a .site) (a .state) (a .input) passed)),
-                ((λ _. rw (c .advance .ensures .0) (tick-bypassed (a .site) (a .state) (a .input) passed)), over-lists _),
+                (λ _. rw (c .advance .ensures .0) (tick-cycle (a .site) (a .state) (a .input) passed)),
+                (
+                  (λ _. rw (c .advance .ensures .0) (tick-searched (a .site) (a .state) (a .input) passed)),
+                  ((λ _. rw (c .advance .ensures .0) (tick-bypassed (a .site) (a .state) (a .input) passed)), over-lists _),
+                ),
               ),
             ),
           ),

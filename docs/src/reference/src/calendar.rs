@@ -1,8 +1,10 @@
-//! 'Day and entry' of document 01: the days one after the other, their weekdays and the holidays.
+//! 'Day and entry' of document 01, with the fixed dates that move of document 02: the days one after the other, their weekdays and the
+//! holidays.
 
 use std::sync::OnceLock;
 
 pub const HOLIDAY: usize = 7;
+pub const SUNDAY: u16 = 0;
 /// Of a day.
 pub const TENTHS: u32 = 864_000;
 
@@ -114,27 +116,55 @@ fn floating(year: u16, month: u16, week: u16, weekday: u16) -> Date {
     }
 }
 
-fn is_floating(date: Date, row: &[u16; 4]) -> bool {
-    let [_, month, week, weekday] = *row;
-    floating(date.year, month, week, weekday) == date
+/// A day of another month is not it; of 1999 only December is walked.
+fn is_floating(date: Date, row: &[u16; 5]) -> bool {
+    let [_, month, week, weekday, _] = *row;
+    date.month == month && floating(date.year, month, week, weekday) == date
 }
 
-/// 31 December 1999 is the one day before the first year, and only December of it is walked.
-fn after_floating(date: Date, row: &[u16; 4]) -> bool {
-    let before = day_before(date);
-    before.month == row[1] && is_floating(before, row)
+/// The row's day of the row's month, in any year that has it.
+fn is_dated(date: Date, row: &[u16; 5]) -> bool {
+    (date.month, date.day) == (row[1], row[2])
 }
 
-pub fn is_holiday(date: Date, row: &[u16; 4]) -> bool {
-    match row[0] {
-        1 => (date.month, date.day) == (row[1], row[2]),
-        2 => is_floating(date, row),
-        _ => after_floating(date, row),
+/// Whether this is the date of a row that moves, "1 for a fixed date that moves to the next day when it is a Sunday".
+fn is_moving(date: Date, row: &[u16; 5]) -> bool {
+    row[0] == 1 && row[4] == 1 && is_dated(date, row)
+}
+
+/// The date of a row that moves is a Sunday: the holiday is the next day.
+pub fn has_left(date: Date, row: &[u16; 5]) -> bool {
+    is_moving(date, row) && weekday(date) == SUNDAY
+}
+
+/// The row's date was yesterday, a Sunday, and it moves. 31 December 1999 was none, and in a common year no day is 29 February.
+pub fn has_moved_to(date: Date, row: &[u16; 5]) -> bool {
+    has_left(day_before(date), row)
+}
+
+/// The date of a row that moves is no Sunday: the holiday is this very day.
+pub fn stays(date: Date, row: &[u16; 5]) -> bool {
+    is_moving(date, row) && weekday(date) != SUNDAY
+}
+
+fn is_fixed(date: Date, row: &[u16; 5]) -> bool {
+    match row[4] {
+        0 => is_dated(date, row),
+        _ => stays(date, row) || has_moved_to(date, row),
     }
 }
 
-/// 0 Sunday to 6 Saturday, 7 Holiday.
-pub fn day_type(date: Date, holidays: &[[u16; 4]]) -> usize {
+pub fn is_holiday(date: Date, row: &[u16; 5]) -> bool {
+    match row[0] {
+        1 => is_fixed(date, row),
+        2 => is_floating(date, row),
+        // the floating date alone is followed, and no fixed one that has moved
+        _ => is_floating(day_before(date), row),
+    }
+}
+
+/// 0 Sunday to 6 Saturday, 7 Holiday. "A moved holiday leaves its Sunday an ordinary one unless another row names it."
+pub fn day_type(date: Date, holidays: &[[u16; 5]]) -> usize {
     if holidays.iter().any(|row| is_holiday(date, row)) {
         return HOLIDAY;
     }

@@ -3,6 +3,7 @@
 use crate::bypass_cases;
 use crate::cases;
 use crate::midnight_cases;
+use crate::moved_cases;
 use crate::nearest_cases;
 use crate::preemption_cases;
 use crate::random::Random;
@@ -15,6 +16,7 @@ const DECISIONS: usize = 3500;
 pub fn cases() -> Vec<Vec<u8>> {
     let mut r = Random::new(SEED);
     let calls = [preemption_cases::cases(), bypass_cases::cases()].concat();
-    let named = [calls, nearest_cases::cases(), midnight_cases::cases(), refusal_cases::cases()].concat();
+    let days = [midnight_cases::cases(), moved_cases::cases()].concat();
+    let named = [calls, nearest_cases::cases(), days, refusal_cases::cases()].concat();
     [tick_cases::cases(&mut r), named, cases::cases(&mut r, DECISIONS)].concat()
 }

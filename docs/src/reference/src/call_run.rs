@@ -173,6 +173,11 @@ fn state_line(state: &State) -> String {
 const SPOILT_IN: [&str; 4] =
     ["sites spoilt in the timings", "sites spoilt in the entries", "sites spoilt in the holidays", "sites spoilt in the levels"];
 
+/// None of a site that is none: nothing is decided there.
+fn holidays(site: &Option<Site>) -> &[[u16; 5]] {
+    site.as_ref().map_or(&[], |site| &site.holidays)
+}
+
 struct Run<'a> {
     /// The site that the file gave; the present record; and its site, none where no file could give it.
     given: Site,
@@ -226,7 +231,7 @@ impl Run<'_> {
             self.state = answer.state;
             let half = self.goes_up(answer.decision.wish);
             self.tally.count("ticks whose cycle is a half going up", half);
-            self.ticked.note(input.clock, &answer.decision);
+            self.ticked.note(holidays(&self.site), input.clock, &answer.decision);
             let line = tick_line(&answer);
             if line != before || answer.released != 0 {
                 writeln!(self.out, "{number} {line}").unwrap();
@@ -296,7 +301,7 @@ impl Run<'_> {
         self.tally.count("decisions", 1);
         let half = self.goes_up(decision.wish);
         self.tally.count("decisions whose cycle is a half going up", half);
-        self.decided.note(clock, &decision);
+        self.decided.note(holidays(&self.site), clock, &decision);
         self.tally.refused(refusal);
         writeln!(self.out, "decide {refusal} {} {cycle}", text::decision(&decision)).unwrap();
     }

@@ -1,6 +1,6 @@
 //! Random sites, clocks, commands, periods and states, and cases made of them: what is wanted, and the poll record.
 
-use crate::calendar::{self, day_before, month_length, shifted, such_days, weekday, Clock, Date};
+use crate::calendar::{self, day_before, month_length, shifted, such_days, weekday, Clock, Date, SUNDAY};
 use crate::call_run::{payload, Op};
 use crate::periods::{Counts, Periods};
 use crate::random::Random;
@@ -185,23 +185,35 @@ fn weeks(date: Date) -> Vec<u16> {
 }
 
 /// A row that names this date, or, with a kind of 3, the day after.
-fn naming(r: &mut Random, kind: u16, date: Date) -> [u16; 4] {
+fn naming(r: &mut Random, kind: u16, date: Date) -> [u16; 5] {
     match kind {
-        1 => [1, date.month, date.day, 0],
-        _ => [kind, date.month, r.pick(&weeks(date)), weekday(date)],
+        1 => [1, date.month, date.day, 0, 0],
+        _ => [kind, date.month, r.pick(&weeks(date)), weekday(date), 0],
     }
 }
 
-/// A row that makes this date a holiday.
-fn hit(r: &mut Random, date: Date) -> [u16; 4] {
-    match r.number(1, 3) {
-        3 => naming(r, 3, day_before(date)),
-        kind => naming(r, kind, date),
+/// A fixed date that moves.
+fn moving(date: Date) -> [u16; 5] {
+    [1, date.month, date.day, 0, 1]
+}
+
+/// A row that makes this date a holiday. One that moves has come from yesterday, a Sunday, or stays; on a Sunday there is none.
+fn hit(r: &mut Random, date: Date) -> [u16; 5] {
+    let before = day_before(date);
+    match r.number(1, 5) {
+        2 => naming(r, 2, date),
+        3 => naming(r, 3, before),
+        4 if weekday(before) == SUNDAY => moving(before),
+        4 | 5 if weekday(date) != SUNDAY => moving(date),
+        _ => naming(r, 1, date),
     }
 }
 
 /// A row that misses narrowly: another kind of the same date, or one number moved.
-fn miss(r: &mut Random, date: Date) -> [u16; 4] {
+fn miss(r: &mut Random, date: Date) -> [u16; 5] {
+    if r.percent(35) {
+        return miss_moving(r, date);
+    }
     let mut row = hit(r, date);
     match (r.from(0, 3), row[0]) {
         (0, 1) => row[2] = if row[2] < 28 { row[2] + 1 } else { 1 },
@@ -215,30 +227,55 @@ fn miss(r: &mut Random, date: Date) -> [u16; 4] {
     row
 }
 
-fn any_holiday(r: &mut Random) -> [u16; 4] {
-    let (kind, month) = (r.number(1, 3), r.number(1, 12));
-    match kind {
-        1 => [1, month, r.edged(1, site::days_in(month)), 0],
-        _ => [kind, month, r.number(1, 5), r.number(0, 6)],
+/// The same with dates that move: on 1 March of a common year 29 February; on a Sunday itself, which it leaves; on Tuesday the Sunday
+/// before; else yesterday, which stays where it is no Sunday. On Monday that is one that does not move.
+fn miss_moving(r: &mut Random, date: Date) -> [u16; 5] {
+    let before = day_before(date);
+    match weekday(date) {
+        _ if (date.month, date.day, before.day) == (3, 1, 28) && r.percent(70) => [1, 2, 29, 0, 1],
+        SUNDAY if r.percent(80) => moving(date),
+        1 => naming(r, 1, before),
+        2 if r.percent(50) => moving(day_before(before)),
+        _ => moving(before),
     }
 }
 
-/// The date itself, or one of the nine days before it.
-fn up_to(r: &mut Random, date: Date) -> Date {
-    let back = r.pick(&[0, 0, 0, 0, 0, 0, 1, 1, 1, 2, 3, 4, 5, 6, 7, 8, 9]);
-    shifted(date, -back).expect("December 1999 is walked")
+fn any_holiday(r: &mut Random) -> [u16; 5] {
+    let (kind, month) = (r.number(1, 3), r.number(1, 12));
+    match kind {
+        1 => [1, month, r.edged(1, site::days_in(month)), 0, r.number(0, 1)],
+        _ => [kind, month, r.number(1, 5), r.number(0, 6), 0],
+    }
 }
 
-/// Holidays on a date and the days before it, or right beside them.
-pub fn holidays(r: &mut Random, date: Date) -> Vec<[u16; 4]> {
+/// The date itself, or one of the nine days before it; often the last Sunday or Monday up to that day.
+fn up_to(r: &mut Random, date: Date) -> Date {
+    let back = r.pick(&[0, 0, 0, 0, 0, 0, 1, 1, 1, 2, 3, 4, 5, 6, 7, 8, 9]);
+    let day = shifted(date, -back).expect("December 1999 is walked");
+    if !r.percent(35) {
+        return day;
+    }
+    let wanted = r.pick(&[SUNDAY, 1]);
+    let mut week = (0..7).map(|back| shifted(day, -back).expect("December 1999 is walked"));
+    week.find(|day| weekday(*day) == wanted).expect("every weekday is there")
+}
+
+/// Holidays on a date and the days before it, or right beside them. On a Sunday and on the Monday after it often one that moves from there.
+pub fn holidays(r: &mut Random, date: Date) -> Vec<[u16; 5]> {
     let hitting = r.pick(&[0, 10, 30, 50]);
-    (0..rows(r, 16))
+    let mut out: Vec<[u16; 5]> = (0..rows(r, 16))
         .map(|_| match (r.from(1, 100), up_to(r, date)) {
             (x, day) if x <= hitting => hit(r, day),
             (x, day) if x <= 70 => miss(r, day),
             _ => any_holiday(r),
         })
-        .collect()
+        .collect();
+    let sunday = if weekday(date) == SUNDAY { date } else { day_before(date) };
+    if weekday(sunday) == SUNDAY && r.percent(40) {
+        out.truncate(15);
+        out.insert(r.from(0, out.len() as u64) as usize, moving(sunday));
+    }
+    out
 }
 
 /// A threshold just below, at or just above what was measured, unused, or any.
@@ -266,11 +303,23 @@ fn levels(r: &mut Random, x: Option<Measures>, tables: u16) -> Vec<[u16; 5]> {
 
 // Clocks and commands in range.
 
-/// Dates at the ends of months and years, 29 February, the first days of 2000, of March and of any month, and any.
+/// That month's last day in the first year from this one on, going round after 2099, in which it is a Sunday.
+fn sunday_end(year: u16, month: u16) -> Date {
+    let years = (2000..2100).cycle().skip(year as usize - 2000);
+    let mut ends = years.map(|year| Date { year, month, day: month_length(year, month) });
+    ends.find(|end| weekday(*end) == SUNDAY).expect("every month ends on a Sunday in some year")
+}
+
+/// That Sunday or the day after it; 31 December 2099 is a Thursday.
+fn monday_or(r: &mut Random, sunday: Date) -> Date {
+    shifted(sunday, r.pick(&[0, 1])).expect("a Monday")
+}
+
+/// Dates at the ends of months and years, 29 February, the first days of 2000, of March and of any month, Sundays and Mondays, and any.
 pub fn date(r: &mut Random) -> Date {
     let year = r.edged(2000, 2099);
     let month = r.number(1, 12);
-    match r.from(0, 23) {
+    match r.from(0, 29) {
         0 => Date { year: 2000, month: 1, day: 1 },
         1 => Date { year: 2099, month: 12, day: 31 },
         2 => Date { year, month: 1, day: 1 },
@@ -291,6 +340,15 @@ pub fn date(r: &mut Random) -> Date {
         9 => Date { year: 2000, month: 1, day: r.number(1, 9) },
         10 => Date { year: r.pick(&[year, year / 4 * 4]), month: 3, day: r.number(1, 8) },
         11 => Date { year, month: r.pick(&[1, month]), day: r.number(1, 8) },
+        12..=15 => {
+            let sunday = r.pick(&such_days(year, month, SUNDAY));
+            monday_or(r, sunday)
+        }
+        16 | 17 => {
+            let month = r.pick(&[month, month, 2, 3, 12]);
+            let end = sunday_end(year, month);
+            monday_or(r, end)
+        }
         _ => Date { year, month, day: r.number(1, month_length(year, month)) },
     }
 }
@@ -349,7 +407,7 @@ fn sound(r: &mut Random) -> Case {
     // the day before, 31 December 1999, is the final Friday of its month
     if date == (Date { year: 2000, month: 1, day: 1 }) && r.percent(50) {
         holidays.truncate(15);
-        holidays.push([3, 12, 5, 5]);
+        holidays.push([3, 12, 5, 5, 0]);
     }
     let entries = entries(r, &starts, tables);
     let levels = levels(r, measures(&periods.last, m), tables);

@@ -36,7 +36,7 @@ const SECTIONS: [Section; 4] = [
         ],
     },
     Section { plural: "plan entries", row: "plan entry", numbers: &["days", "start minute", "mode", "rate", "level table"] },
-    Section { plural: "holidays", row: "holiday", numbers: &["kind", "month", "day or week", "weekday"] },
+    Section { plural: "holidays", row: "holiday", numbers: &["kind", "month", "day or week", "weekday", "Sunday move"] },
     Section { plural: "levels", row: "level", numbers: &["table", "flow", "occupancy", "speed", "rate"] },
 ];
 

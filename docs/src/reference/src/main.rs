@@ -1,5 +1,5 @@
-//! Document 01 in plain Rust, with the preemption, the nearest cycle, the plans past midnight, the bus bypass and the one cycle per
-//! tick of document 02.
+//! Document 01 in plain Rust, with the preemption, the nearest cycle, the plans past midnight, the bus bypass, the one cycle per tick and
+//! the holidays that move of document 02.
 //! `reference NAME` writes test inputs and what they should give:
 //!
 //! - `site-bounds stdin`, `site-bounds stdout`: the files of `crates/site_bounds`.
@@ -19,6 +19,7 @@
 //! - `replay-files FOLDER`: the files that it reads.
 //! - `rate-sheet`: what `crates/rate_sheet` prints.
 //! - `release-check`: what `crates/release_check` prints.
+//! - `calendar-check`: what `crates/calendar_check` prints.
 //! - `paper-site`: the site file of `crates/timetable`.
 //! - `timetable-cases stdout`: what `crates/timetable_cases` prints.
 //! - `timetable-files FOLDER`: the files that it reads.
@@ -29,6 +30,7 @@ mod bypass_mark_cases;
 mod bypass_steps;
 mod bypass_watch;
 mod calendar;
+mod calendar_check;
 mod call_cases;
 mod call_run;
 mod cases;
@@ -37,6 +39,7 @@ mod files;
 mod group;
 mod lanes;
 mod midnight_cases;
+mod moved_cases;
 mod nearest_cases;
 mod output;
 mod periods;
@@ -183,6 +186,7 @@ fn main() -> Result<()> {
         ["replay-files", folder] => replay_files::write(folder),
         ["rate-sheet"] => out.write_all(rate_sheet::print().as_bytes()),
         ["release-check"] => out.write_all(release_check::print().as_bytes()),
+        ["calendar-check"] => out.write_all(calendar_check::print().as_bytes()),
         ["paper-site"] => out.write_all(&site::bytes(&timetable_files::paper())),
         ["timetable-cases", "stdout"] => out.write_all(timetable_files::answers().as_bytes()),
         ["timetable-files", folder] => timetable_files::write(folder),

@@ -14,34 +14,34 @@ use crate::wanted::{decide, Command};
 use std::ops::RangeInclusive;
 
 // The day types of an entry.
-const SUN: u16 = 1;
-const MON: u16 = 2;
+pub const SUN: u16 = 1;
+pub const MON: u16 = 2;
 const TUE: u16 = 4;
 const WED: u16 = 8;
 const THU: u16 = 16;
 const FRI: u16 = 32;
 const SAT: u16 = 64;
-const HOL: u16 = 128;
+pub const HOL: u16 = 128;
 /// All but holidays.
-const DAILY: u16 = 127;
+pub const DAILY: u16 = 127;
 
 /// At midnight, at noon and in the last minute.
 const ALL_DAY: [u32; 3] = [0, 720, 1439];
 
 /// A clock, and the place of the entry in force there.
-type Asked = (Clock, usize);
+pub type Asked = (Clock, usize);
 
 /// An entry to meter from a minute on.
-fn meter(days: u16, start: u16, rate: u16) -> [u16; 5] {
+pub fn meter(days: u16, start: u16, rate: u16) -> [u16; 5] {
     [days, start, 2, rate, 0]
 }
 
-fn planned(entries: &[[u16; 5]], holidays: &[[u16; 4]]) -> Site {
+pub fn planned(entries: &[[u16; 5]], holidays: &[[u16; 5]]) -> Site {
     Site { entries: entries.to_vec(), holidays: holidays.to_vec(), ..quick(2, 0, 1) }
 }
 
 /// Each of these days of a month at each of these minutes, with the same entry in force.
-fn each(year: u16, month: u16, days: RangeInclusive<u16>, minutes: &[u32], place: usize) -> Vec<Asked> {
+pub fn each(year: u16, month: u16, days: RangeInclusive<u16>, minutes: &[u32], place: usize) -> Vec<Asked> {
     days.flat_map(|day| minutes.iter().map(move |minute| (at(year, month, day, *minute), place))).collect()
 }
 
@@ -51,23 +51,23 @@ fn hold(site: &Site, clock: Clock, commands: [Command; 2], place: usize) {
     assert_eq!(found, place, "the entry in force at {clock:?}");
 }
 
-fn decision(site: &Site, (clock, place): Asked) -> Op {
+pub fn decision(site: &Site, (clock, place): Asked) -> Op {
     hold(site, clock, [NONE; 2], place);
     Op::Decide(clock, [NONE; 2])
 }
 
-fn tick(site: &Site, (clock, place): Asked) -> Op {
+pub fn tick(site: &Site, (clock, place): Asked) -> Op {
     hold(site, clock, [NONE; 2], place);
     Op::Ticks(1, Input { clock, ..in_demand(NONE) })
 }
 
 /// A decision at each clock.
-fn decided(site: &Site, asked: &[Asked]) -> Vec<u8> {
+pub fn decided(site: &Site, asked: &[Asked]) -> Vec<u8> {
     from_power_up(&bytes(site), &asked.iter().map(|a| decision(site, *a)).collect::<Vec<Op>>())
 }
 
 /// A decision and a tick at each clock.
-fn ticked(site: &Site, asked: &[Asked]) -> Vec<u8> {
+pub fn ticked(site: &Site, asked: &[Asked]) -> Vec<u8> {
     from_power_up(&bytes(site), &asked.iter().flat_map(|a| [decision(site, *a), tick(site, *a)]).collect::<Vec<Op>>())
 }
 
@@ -87,7 +87,7 @@ fn first_minute() -> Vec<Vec<u8>> {
 }
 
 /// The last ticks of a day and the first of the next, with vehicles on the ramp, and what is in force before midnight and after.
-fn over(site: &Site, last: Date, next: Date, after: u16, places: [usize; 2]) -> Vec<u8> {
+pub fn over(site: &Site, last: Date, next: Date, after: u16, places: [usize; 2]) -> Vec<u8> {
     let (evening, morning) = (Clock { date: last, tenth: 863_800 }, Clock { date: next, tenth: 0 });
     let ticks = |count, clock| Op::Ticks(count, Input { clock, ..passing(NONE) });
     let ops = [decision(site, (evening, places[0])), ticks(200, evening), decision(site, (morning, places[1])), ticks(after, morning)];
@@ -103,7 +103,7 @@ fn runs() -> Vec<Vec<u8>> {
     let midnight = planned(&[meter(DAILY, 1200, 900), meter(DAILY, 0, 600)], &[]);
     let dark = planned(&[[DAILY, 0, 0, 0, 0], meter(DAILY, 1200, 900)], &[]);
     // into a holiday without entries, into one with its own, and out of it
-    let fourth = [[1, 7, 4, 0]];
+    let fourth = [[1, 7, 4, 0, 0]];
     let into = planned(&[meter(DAILY, 1200, 900)], &fourth);
     let own = planned(&[meter(DAILY, 1200, 900), [HOL, 0, 1, 0, 0]], &fourth);
     let out = planned(&[meter(DAILY, 360, 900), meter(HOL, 1200, 600)], &fourth);
@@ -130,7 +130,7 @@ fn runs() -> Vec<Vec<u8>> {
 /// A clock that jumps forward and back, over hours, days, months and years: at each tick the entry in force is that of the clock, whatever
 /// was in force before. Entries on Monday 06:00, Thursday 20:00 and, green, at noon of a holiday, 4 July.
 fn jumps() -> Vec<u8> {
-    let site = planned(&[meter(MON, 360, 900), meter(THU, 1200, 600), [HOL, 720, 1, 0, 0]], &[[1, 7, 4, 0]]);
+    let site = planned(&[meter(MON, 360, 900), meter(THU, 1200, 600), [HOL, 720, 1, 0, 0]], &[[1, 7, 4, 0, 0]]);
     let asked = [
         // Wednesday, and Thursday before and after its start
         (at(2025, 1, 8, 180), 1),
@@ -190,7 +190,7 @@ fn one_weekday_ticks() -> Vec<Vec<u8>> {
 }
 
 /// An entry for each weekday, Sunday's first, from 06:00 on: "yesterday's day type". On each day before its start it is yesterday's.
-fn each_weekday() -> Site {
+pub fn each_weekday() -> Site {
     planned(&(0..7).map(|weekday| meter(1 << weekday, 360, 900 + weekday)).collect::<Vec<_>>(), &[])
 }
 
@@ -243,7 +243,7 @@ fn begun_today() -> Vec<Vec<u8>> {
 /// An entry on holidays alone, from 10:00 on, is in force on the seven days after the holiday, to their end, and not on the eighth: of a
 /// fixed date, a floating one and the day after, of both, and of two that are seven days apart.
 fn holiday_alone() -> Vec<Vec<u8>> {
-    let site = |rows: &[[u16; 4]]| planned(&[meter(HOL, 600, 900)], rows);
+    let site = |rows: &[[u16; 5]]| planned(&[meter(HOL, 600, 900)], rows);
     let begins = |month, day| [each(2025, month, day..=day, &[0, 599], 0), each(2025, month, day..=day, &[600, 1439], 1)].concat();
     // Friday 4 July
     let fixed = [each(2025, 7, 3..=3, &ALL_DAY, 0), begins(7, 4), each(2025, 7, 5..=11, &ALL_DAY, 1), each(2025, 7, 12..=13, &ALL_DAY, 0)];
@@ -256,18 +256,18 @@ fn holiday_alone() -> Vec<Vec<u8>> {
     let new_year = [each(2026, 1, 1..=8, &ALL_DAY, 1), each(2026, 1, 9..=9, &ALL_DAY, 0)].concat();
     let christmas = [begins(12, 25), each(2025, 12, 26..=31, &ALL_DAY, 1), new_year];
     vec![
-        ticked(&site(&[[1, 7, 4, 0]]), &fixed.concat()),
-        decided(&site(&[[2, 11, 4, 4]]), &thanksgiving.concat()),
-        decided(&site(&[[3, 11, 4, 4]]), &day_after.concat()),
-        decided(&site(&[[2, 11, 4, 4], [3, 11, 4, 4]]), &both.concat()),
-        decided(&site(&[[1, 12, 25, 0], [1, 1, 1, 0]]), &christmas.concat()),
+        ticked(&site(&[[1, 7, 4, 0, 0]]), &fixed.concat()),
+        decided(&site(&[[2, 11, 4, 4, 0]]), &thanksgiving.concat()),
+        decided(&site(&[[3, 11, 4, 4, 0]]), &day_after.concat()),
+        decided(&site(&[[2, 11, 4, 4, 0], [3, 11, 4, 4, 0]]), &both.concat()),
+        decided(&site(&[[1, 12, 25, 0, 0], [1, 1, 1, 0, 0]]), &christmas.concat()),
     ]
 }
 
 /// "Yesterday's day type": where yesterday was a holiday its weekday's entry is not taken, but the Holiday entry, or that of the day before
 /// it where there is none; and the same of the days before. Entries 1 to 7 are those of Sunday to Saturday, 8 that of holidays.
 fn holidays_before() -> Vec<Vec<u8>> {
-    let site = |rows: &[[u16; 4]], with_holiday: bool| {
+    let site = |rows: &[[u16; 5]], with_holiday: bool| {
         let mut site = each_weekday();
         site.holidays = rows.to_vec();
         if with_holiday {
@@ -280,7 +280,7 @@ fn holidays_before() -> Vec<Vec<u8>> {
         let clocks = [at(2025, 11, 28, 0), at(2025, 11, 29, 359), at(2025, 11, 30, 0)];
         clocks.into_iter().zip(places).collect::<Vec<Asked>>()
     };
-    let (thanksgiving, day_after, fixed) = ([2, 11, 4, 4], [3, 11, 4, 4], [1, 11, 28, 0]);
+    let (thanksgiving, day_after, fixed) = ([2, 11, 4, 4, 0], [3, 11, 4, 4, 0], [1, 11, 28, 0, 0]);
     vec![
         ticked(&site(&[], true), &after([5, 6, 7])),
         ticked(&site(&[thanksgiving], false), &after([4, 6, 7])),
@@ -297,8 +297,8 @@ fn holidays_before() -> Vec<Vec<u8>> {
 /// Today is a holiday, yesterday was none: up to today's first Holiday entry yesterday's is in force, all day long where there is none.
 /// Wednesday 8 January.
 fn holiday_today() -> Vec<Vec<u8>> {
-    let plain = planned(&[meter(DAILY, 360, 900)], &[[1, 1, 8, 0]]);
-    let own = planned(&[meter(WED, 0, 900), meter(TUE, 360, 600), meter(HOL, 540, 700)], &[[1, 1, 8, 0]]);
+    let plain = planned(&[meter(DAILY, 360, 900)], &[[1, 1, 8, 0, 0]]);
+    let own = planned(&[meter(WED, 0, 900), meter(TUE, 360, 600), meter(HOL, 540, 700)], &[[1, 1, 8, 0, 0]]);
     vec![
         ticked(&plain, &[each(2025, 1, 8..=8, &[0, 359, 360, 1439], 1), each(2025, 1, 9..=9, &[0, 360], 1)].concat()),
         ticked(&own, &[each(2025, 1, 8..=8, &[0, 539], 2), each(2025, 1, 8..=8, &[540, 1439], 3), each(2025, 1, 9..=14, &[0], 3)].concat()),
@@ -308,7 +308,7 @@ fn holiday_today() -> Vec<Vec<u8>> {
 /// Eight holidays in a row, 1 to 8 July, and entries on all other days from 06:00 on: 30 June's is in force on seven of them, one to seven
 /// days back, and on the eighth none; nor is one on the ninth, up to its own start.
 fn holidays_in_a_row() -> Vec<u8> {
-    let rows: Vec<[u16; 4]> = (1..=8).map(|day| [1, 7, day, 0]).collect();
+    let rows: Vec<[u16; 5]> = (1..=8).map(|day| [1, 7, day, 0, 0]).collect();
     let site = planned(&[meter(DAILY, 360, 900)], &rows);
     let asked = [each(2025, 7, 1..=7, &[0, 1439], 1), each(2025, 7, 8..=8, &ALL_DAY, 0), each(2025, 7, 9..=9, &[0, 359], 0)];
     ticked(&site, &[&asked.concat()[..], &each(2025, 7, 9..=9, &[360, 1439], 1)].concat())
@@ -337,7 +337,7 @@ fn january_2000_holidays() -> Vec<Vec<u8>> {
     let holiday = [meter(HOL, 600, 900)];
     let saturday = [meter(SAT, 360, 900)];
     let both = [meter(SAT, 360, 900), meter(HOL, 600, 600)];
-    let (fixed, final_friday, day_after, new_year) = ([1, 12, 31, 0], [2, 12, 5, 5], [3, 12, 5, 5], [1, 1, 1, 0]);
+    let (fixed, final_friday, day_after, new_year) = ([1, 12, 31, 0, 0], [2, 12, 5, 5, 0], [3, 12, 5, 5, 0], [1, 1, 1, 0, 0]);
     let days = |from, to, place| each(2000, 1, from..=to, &[0, 1439], place);
     let first = [each(2000, 1, 1..=1, &[0, 359], 0), each(2000, 1, 1..=1, &[360, 1439], 1), days(2, 9, 1)].concat();
     let none = days(1, 9, 0);
@@ -369,7 +369,7 @@ fn january_2000_holidays() -> Vec<Vec<u8>> {
 /// 29 February and the days of March after it: an entry on holidays alone, the holiday being 29 or 28 February, is in force on the seven
 /// days after that date; in common years there is no 29 February.
 fn february() -> Vec<Vec<u8>> {
-    let site = |day| planned(&[meter(HOL, 600, 900)], &[[1, 2, day, 0]]);
+    let site = |day| planned(&[meter(HOL, 600, 900)], &[[1, 2, day, 0, 0]]);
     let march = |year, last: u16| [each(year, 3, 1..=last, &[0, 1439], 1), each(year, 3, last + 1..=8, &[0, 1439], 0)].concat();
     let begins = |year, day: u16| [each(year, 2, day..=day, &[0, 599], 0), each(year, 2, day..=day, &[600, 1439], 1)].concat();
     let leap = |year| {
@@ -390,10 +390,10 @@ fn february() -> Vec<Vec<u8>> {
 fn month_ends() -> Vec<Vec<u8>> {
     let case = |year: u16, february: u16| {
         let ends = [31, february, 31, 30, 31, 30, 31, 31, 30, 31, 30, 31];
-        let rows: Vec<[u16; 4]> = (1..).zip(ends).map(|(month, day)| [1, month, day, 0]).collect();
+        let rows: Vec<[u16; 5]> = (1..).zip(ends).map(|(month, day)| [1, month, day, 0, 0]).collect();
         let site = planned(&[meter(HOL, 600, 900)], &rows);
-        let about = |row: &[u16; 4]| {
-            let [_, month, day, _] = *row;
+        let about = |row: &[u16; 5]| {
+            let [_, month, day, ..] = *row;
             let (next_year, next) = if month == 12 { (year + 1, 1) } else { (year, month + 1) };
             [(at(year, month, day, 599), 0), (at(year, month, day, 600), 1), (at(next_year, next, 1, 0), 1)]
                 .into_iter()
@@ -437,7 +437,7 @@ fn first_days() -> Vec<u8> {
 /// far.
 fn last_day() -> Vec<Vec<u8>> {
     let thursday = planned(&[meter(THU, 360, 900)], &[]);
-    let holiday = |day| planned(&[meter(HOL, 360, 900)], &[[1, 12, day, 0]]);
+    let holiday = |day| planned(&[meter(HOL, 360, 900)], &[[1, 12, day, 0, 0]]);
     vec![
         ticked(&thursday, &each(2099, 12, 31..=31, &[0, 359, 360, 1439], 1)),
         ticked(&holiday(24), &each(2099, 12, 30..=31, &[0, 1439], 1)),
@@ -450,7 +450,7 @@ fn last_day() -> Vec<Vec<u8>> {
 /// "Only then is it dark": with no entry at all, at any clock, the place is 0.
 fn no_entry() -> Vec<u8> {
     let clocks = [at(2000, 1, 1, 0), at(2000, 1, 8, 0), at(2025, 7, 4, 720), at(2025, 7, 5, 0), at(2099, 12, 31, 1439)];
-    ticked(&planned(&[], &[[1, 7, 4, 0]]), &clocks.map(|clock| (clock, 0)))
+    ticked(&planned(&[], &[[1, 7, 4, 0, 0]]), &clocks.map(|clock| (clock, 0)))
 }
 
 /// An entry of an earlier day is in force as any other is: one that is dark, which is not none, one that is green, and a responsive one

@@ -174,7 +174,7 @@ fn any_poll(r: &mut Random, s: &Setting) -> Op {
 
 /// Into a buffer that just holds the site's file, one that is a byte shorter or longer, or any.
 fn any_write(r: &mut Random, s: &Setting) -> Op {
-    let (size, any) = (bytes(&s.site).len() as u16, r.number(0, 600));
+    let (size, any) = (bytes(&s.site).len() as u16, r.number(0, 640));
     Op::Write(r.pick(&[size - 1, size, size + 1, any]))
 }
 
@@ -210,7 +210,7 @@ fn damage_site(r: &mut Random, s: &Setting) -> Op {
     match r.from(0, 3) {
         0 => damage_timing(r),
         1 => damage_list(r, 1, 5, 5 * entries.len() as u16, 80),
-        2 => damage_list(r, 2, 4, 4 * holidays.len() as u16, 64),
+        2 => damage_list(r, 2, 5, 5 * holidays.len() as u16, 80),
         _ => damage_list(r, 3, 5, 5 * levels.len() as u16, 120),
     }
 }

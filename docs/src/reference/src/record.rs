@@ -3,7 +3,7 @@
 use crate::site::{self, Site};
 
 /// How many numbers each section has room for, and how many one of its count stands for.
-const ROOMS: [(usize, usize); 4] = [(17, 1), (16 * 5, 5), (16 * 4, 4), (24 * 5, 5)];
+const ROOMS: [(usize, usize); 4] = [(17, 1), (16 * 5, 5), (16 * 5, 5), (24 * 5, 5)];
 
 #[derive(Clone, Debug, PartialEq)]
 struct Section {

@@ -36,7 +36,7 @@ type List = (u16, u16, u16, u16);
 
 fn lists(site: &Site) -> [List; 3] {
     let Site { entries, holidays, levels, .. } = site;
-    [(1, 5, entries.len() as u16, 16), (2, 4, holidays.len() as u16, 16), (3, 5, levels.len() as u16, 24)]
+    [(1, 5, entries.len() as u16, 16), (2, 5, holidays.len() as u16, 16), (3, 5, levels.len() as u16, 24)]
 }
 
 /// A count with the last row beyond it, with a row of zeros within it, and beyond what is allowed; numbers out of range in the
@@ -61,19 +61,42 @@ fn spoilt_records() -> Vec<Vec<u8>> {
     [timing_damages(&site)].into_iter().chain(of_lists).map(case).collect()
 }
 
+/// The holidays' fifth number: beyond 1 in kind 1, 1 in kinds 2 and 3, in the first row, in those between and in the last, and in rows
+/// beyond the count; then the weekday of the last row. 1 in the first row, of kind 1, is a record that a file could give.
+fn spoilt_moves() -> Vec<u8> {
+    let in_use = [(5, 2), (5, UNUSED), (5, 256), (10, 1), (15, 1), (20, 1), (20, 2), (5, 1)];
+    let others = [(25, 1), (30, 1), (80, 1), (19, 7), (19, 6)];
+    let ops = in_use.into_iter().chain(others).flat_map(|(place, value)| calls_on(2, place, value));
+    from_power_up(&bytes(&site_with_rows()), &ops.collect::<Vec<Op>>())
+}
+
+/// A date that moves in a record, number by number: the fifth number is allowed as long as the kind is 1. A row that is not in use may not
+/// move; with its kind it may once it is counted.
+fn moving_record() -> Vec<u8> {
+    let mut ops = Vec::new();
+    for (place, value) in [(5, 1), (1, 2), (5, 0), (5, 1), (1, 3), (5, 0), (1, 1), (5, 1), (2, 2), (3, 29), (3, 30), (3, 1)] {
+        ops.extend([Op::Damage(2, place, value), DECIDE, Op::Write(600)]);
+    }
+    for (place, value) in [(25, 1), (21, 1), (22, 3), (23, 31), (0, 5), (24, 1), (24, 0), (25, 2), (25, 1), (0, 4), (0, 5)] {
+        ops.extend([Op::Damage(2, place, value), DECIDE, Op::Write(600)]);
+    }
+    ops.extend([Op::Repair, DECIDE, Op::Write(600)]);
+    from_power_up(&bytes(&site_with_rows()), &ops)
+}
+
 /// The last row goes and comes back, number by number; the record is that of a file before, behind and once between.
 fn row_by_row() -> Vec<u8> {
     let mut ops = vec![Op::Write(600)];
     for place in 11..=15 {
         ops.extend([Op::Damage(3, place, 0), Op::Write(600)]);
     }
-    ops.extend([Op::Damage(3, 0, 2), Op::Write(600), Op::Write(134), Op::Write(133)]);
+    ops.extend([Op::Damage(3, 0, 2), Op::Write(600), Op::Write(142), Op::Write(141)]);
     for (place, value) in [(11, 2), (12, UNUSED), (13, 1), (14, UNUSED), (15, 150)] {
         ops.extend([Op::Damage(3, place, value), Op::Write(600)]);
     }
-    ops.extend([Op::Damage(3, 0, 3), Op::Write(600), Op::Write(144), Op::Write(143)]);
+    ops.extend([Op::Damage(3, 0, 3), Op::Write(600), Op::Write(152), Op::Write(151)]);
     // places that there are not
-    ops.extend([Op::Damage(0, 0, 15), Op::Damage(0, 18, 1), Op::Damage(1, 81, 1), Op::Damage(2, 65, 1), Op::Damage(3, 121, 1)]);
+    ops.extend([Op::Damage(0, 0, 15), Op::Damage(0, 18, 1), Op::Damage(1, 81, 1), Op::Damage(2, 81, 1), Op::Damage(3, 121, 1)]);
     ops.extend([Op::Damage(4, 1, 1), Op::Write(600)]);
     // the same of a spoilt record
     ops.extend([Op::Damage(0, 1, 0), Op::Damage(4, 1, 1), Op::Write(600)]);
@@ -136,6 +159,6 @@ fn poll_of_a_run() -> Vec<u8> {
 
 pub fn cases() -> Vec<Vec<u8>> {
     let mut out = [spoilt_records(), poll_buffers(), write_buffers()].concat();
-    out.extend([row_by_row(), poll_of_a_run()]);
+    out.extend([spoilt_moves(), moving_record(), row_by_row(), poll_of_a_run()]);
     out
 }

@@ -138,7 +138,7 @@ fn run(site: &Site, text: &[u8]) -> Replayed {
             said.bypasses.tick(bypass_watch::Tick { site, before: &state, input: &input, answer: &answer }, true);
         }
         said.halves += half_goes_up(site, answer.decision.wish) as u64;
-        said.in_force.note(input.clock, &answer.decision);
+        said.in_force.note(&site.holidays, input.clock, &answer.decision);
         state = answer.state;
     }
     said

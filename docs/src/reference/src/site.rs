@@ -1,11 +1,11 @@
-//! 'The site file' and 'Refusals' of document 01.
+//! 'The site file' and 'Refusals' of document 01, with the timings and the holidays' fifth number of document 02.
 
 /// A site as rows, the way the paper speaks of it.
 #[derive(Clone, Debug, Default, PartialEq)]
 pub struct Site {
     pub timings: Vec<u16>,
     pub entries: Vec<[u16; 5]>,
-    pub holidays: Vec<[u16; 4]>,
+    pub holidays: Vec<[u16; 5]>,
     pub levels: Vec<[u16; 5]>,
 }
 
@@ -92,8 +92,10 @@ pub fn holiday_ok(row: &[u16], i: usize) -> bool {
         (1, _) => (1..=12).contains(&row[1]),
         (2, 1) => (1..=days_in(row[1])).contains(&row[2]),
         (2, _) => (1..=5).contains(&row[2]),
-        (_, 1) => row[3] == 0,
-        _ => row[3] <= 6,
+        (3, 1) => row[3] == 0,
+        (3, _) => row[3] <= 6,
+        (_, 1) => row[4] <= 1,
+        _ => row[4] == 0,
     }
 }
 
@@ -176,7 +178,7 @@ pub fn read(file: &[u8]) -> Result<Site, Refused> {
     let mut r = Reader { file, at: 0 };
     let timings = r.section(0, TIMINGS.len())?.remove(0);
     let entries = r.section(1, 5)?;
-    let holidays = r.section(2, 4)?;
+    let holidays = r.section(2, 5)?;
     let levels = r.section(3, 5)?;
     if r.at < file.len() {
         return Err(Refused { number: 7, place: r.at });

@@ -98,7 +98,7 @@ fn file_lengths() -> Vec<Vec<u8>> {
 /// Thanksgiving and the day after, the final Monday of May, and the days about them; green on holidays.
 fn holiday_runs() -> Vec<u8> {
     let mut site = site_a();
-    site.holidays = vec![[2, 11, 4, 4], [3, 11, 4, 4], [2, 5, 5, 1]];
+    site.holidays = vec![[2, 11, 4, 4, 0], [3, 11, 4, 4, 0], [2, 5, 5, 1, 0]];
     site.entries = vec![[127, 0, 2, 600, 0], [128, 0, 1, 0, 0]];
     let november = [21, 22, 27, 28, 29, 30].map(|day| at(2024, 11, day, 0));
     let may = [19, 25, 26, 27].map(|day| at(2025, 5, day, 0));
@@ -110,7 +110,7 @@ fn holiday_runs() -> Vec<u8> {
 fn entry_runs() -> Vec<u8> {
     let mut site = site_a();
     site.entries = vec![[2, 330, 2, 600, 0], [2, 330, 2, 720, 0], [130, 1170, 0, 0, 0]];
-    site.holidays = vec![[1, 1, 8, 0]];
+    site.holidays = vec![[1, 1, 8, 0, 0]];
     let mut ops = Vec::new();
     for day in [6, 7, 8] {
         for minute in [330, 1170] {

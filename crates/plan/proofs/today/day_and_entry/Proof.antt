@@ -16,7 +16,7 @@ returns : tie.Need-returns
 returns c =
     let d = c .before in
     let a = d .before .before .before .args in (
-      d .day-type .ensures,
+      d .day-type .ensures .0,
       (
         c .in-force-now .ensures,
         (λ ok. rw (c .in-force-now .ensures) (is-now (inForceOf (now (a .plan)) (a .entries)) (now (a .dates)) (a .holidays) (a .today) (a .minute) ok)),

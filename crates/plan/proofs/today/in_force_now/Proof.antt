@@ -67,7 +67,7 @@ type-before : (c : tie.After-day-type Inv-loop μ-loop)
     → let h = c .before .before .before in
     let a = h .before .before .before .before .before .before .args in
     c .day-type .result ≡ dayTypeOf (dayBefore (h .loop .date)) (now (a .dates)) (a .holidays)
-type-before c = rw (← c .before .day-before .ensures) (c .day-type .ensures)
+type-before c = rw (← c .before .day-before .ensures) (c .day-type .ensures .0)
 
 returns-3 : tie.Need-returns-3 Inv-loop μ-loop
 returns-3 c =
