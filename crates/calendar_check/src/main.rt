@@ -133,18 +133,24 @@ fn check_date(date: Date, due: u16, tally: Tally) -> Tally {
     t
 }
 
-// No such date; a row that names it changes nothing.
-fn check_no_date(year: u16, month: u16, day: u16, tally: Tally) -> Tally {
-    let date = Date { year, month, day };
+// The day type of no such date, with a row that would name it.
+fn check_no_day(date: Date, moves: u16, tally: Tally) -> Tally {
     let row = Row {
         kind: 1,
-        month,
-        nth: day,
+        month: date.month,
+        nth: date.day,
         weekday: 0,
-        moves: 0,
+        moves,
     };
-    let t = tally::compared(tally, date, day_type(date, row), calendar::NO_DAY);
-    check_date(date, 0, t)
+    tally::compared(tally, date, day_type(date, row), calendar::NO_DAY)
+}
+
+// No such date; a row that would name it changes nothing, whether it moves or not.
+fn check_no_date(year: u16, month: u16, day: u16, tally: Tally) -> Tally {
+    let date = Date { year, month, day };
+    let fixed = check_no_day(date, 0, tally);
+    let moving = check_no_day(date, 1, fixed);
+    check_date(date, 0, moving)
 }
 
 // Without holidays.
@@ -193,7 +199,7 @@ fn check_lists(date: Date, today: Place, yesterday: Place, tally: Tally) -> Tall
         t = tally::compared(t, date, came, due);
         t.lists = tally::one_answer(t.lists, came == calendar::HOLIDAY);
         if walk::names(list_row(&list, count), today, yesterday) {
-            due = calendar::HOLIDAY;
+            due = walk::HOLIDAY;
         }
     }
     t

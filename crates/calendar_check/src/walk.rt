@@ -1,6 +1,9 @@
 // The walk's own rules of the calendar: the months' lengths are written out, and each weekday is
 // counted as it comes by.
 
+// The day type of a holiday.
+pub const HOLIDAY: u16 = 7;
+
 // A day as the walk came by it.
 pub struct Place {
     pub year: u16,
@@ -147,7 +150,7 @@ pub fn names(row: Row, today: Place, yesterday: Place) -> bool {
 // The day type that the row gives today.
 pub fn due(row: Row, today: Place, yesterday: Place) -> u16 {
     if names(row, today, yesterday) {
-        7
+        HOLIDAY
     } else {
         today.weekday
     }

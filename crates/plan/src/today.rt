@@ -4,6 +4,7 @@ ghost use mathlib.Core.Path.{_≡_};
 ghost use mathlib.Core.Bool.{true};
 ghost use Rattle.calendar.specs.Dates.{isDate};
 ghost use Rattle.calendar.specs.Holidays.{dayTypeOf};
+ghost use Rattle.calendar.specs.Named.{Typed};
 ghost use Rattle.plan.specs.InForce.{inForceOf};
 ghost use Rattle.plan.specs.PastMidnight.{inForceNow, InForceNow};
 use calendar::Date;
@@ -69,6 +70,7 @@ pub fn day_and_entry(
     minute: u16,
 ) -> DayAndEntry
     ensures day { λ r. ⌜ r .day ≡ dayTypeOf today (now (dates .entry)) holidays ⌝ }
+    ensures named { λ r. ⌜ (isDate today ≡ true → Typed today (now (dates .entry)) holidays (r .day)) ⌝ }
     ensures entry { λ r. ⌜ r .entry ≡ inForceNow (inForceOf (now (plan .entry)) entries) (now (dates .entry)) holidays today minute ⌝ }
     ensures recent { λ r. ⌜ (isDate today ≡ true → InForceNow (inForceOf (now (plan .entry)) entries) (now (dates .entry)) holidays today minute (r .entry)) ⌝ }
 {

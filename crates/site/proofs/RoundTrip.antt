@@ -1,6 +1,6 @@
 -- Writing and reading undo each other. Both directions rest on one law per section, whatever stands before and behind it in the file.
 use Prim.Native.Nat.{ℕ, zero, suc, _+_, _*_, _≤_, _<_}
-use mathlib.Core.Path.{_≡_, refl, ap, ap₂, sym, subst, _∙_}
+use mathlib.Core.Path.{_≡_, refl, ap, ap₂, sym, _∙_}
 use mathlib.Core.Bool.{Bool, true, false, not, false≢true}
 use mathlib.Core.List.{List, [], _∷_, _++_, append-nil}
 use native.Mathlib.Omega.{arith}
@@ -258,27 +258,6 @@ module _ (f : List ℕ) where
 
     end-is : length (words f) * 2 ≡ length f
     end-is = omega (arith, words-low f, g₃ .whole, is-whole .end, ap (λ (y : Found). y .next) (g₃ .is))
-
-    -- Where its holidays begin, and where it ends.
-    abbrev q : ℕ
-    q = 19 + getD (words f) 18 0 * 5
-
-    entries-at : t .next ≡ 18
-    entries-at = ap (λ (y : Found). y .next) (g₀ .is) ∙ ap (λ (n : ℕ). 1 + n * 1) (sym count₀)
-
-    holidays-at : e .next ≡ q
-    holidays-at = ap (λ (y : Found). y .next) (g₁ .is) ∙ ap (λ (i : ℕ). i + 1 + getD (words f) i 0 * 5) entries-at ∙ omega arith
-
-    pub holidays-accepted : Accepted Holidays (length f) (words f) q
-    holidays-accepted = subst (λ (i : ℕ). Accepted Holidays (length f) (words f) i) holidays-at g₂
-
-    levels-at : h .next ≡ q + 1 + getD (words f) q 0 * 5
-    levels-at = ap (λ (y : Found). y .next) (g₂ .is) ∙ ap (λ (i : ℕ). i + 1 + getD (words f) i 0 * 5) holidays-at
-
-    pub ends-at : let i = q + 1 + getD (words f) q 0 * 5 in length (words f) ≡ i + 1 + getD (words f) i 0 * 5
-    ends-at =
-        let last : l .next ≡ length (words f) = omega (arith, end-is, is-whole .end) in
-        sym last ∙ ap (λ (y : Found). y .next) (g₃ .is) ∙ ap (λ (i : ℕ). i + 1 + getD (words f) i 0 * 5) levels-at
 
     nothing-left : drop (h .next + 1 + sizeOf Levels (getD (words f) (h .next) 0)) (words f) ≡ []
     nothing-left = drop-of-length-le (words f) {i = h .next + 1 + sizeOf Levels (getD (words f) (h .next) 0)} (omega (arith, end-is, is-whole .end, ap (λ (y : Found). y .next) (g₃ .is)))

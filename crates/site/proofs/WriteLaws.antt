@@ -1,4 +1,4 @@
--- How long a record's file is, and what its four sections leave that are stored one behind the other.
+-- How long a record's file is, at the most the longest; and what its four sections leave that are stored one behind the other.
 use Prim.Native.Nat.{ℕ, _+_, _*_, _≤_}
 use mathlib.Core.Path.{_≡_, ap, sym, _∙_}
 use mathlib.Core.Bool.{false}
@@ -14,6 +14,7 @@ use Rattle.ranges.specs.declared.Section.the-variants.{Timings, Entries, Holida
 use Rattle.ranges.specs.Sections.{sizeOf, mostOf}
 use Rattle.site.specs.declared.Site.{Site}
 use Rattle.site.specs.Record.{spoiltSite}
+use Rattle.site.specs.Reading.{longestFile}
 use Rattle.site.specs.Writing.{partOf, wordsOf, bytesOf}
 use Rattle.site.proofs.Sizes.{fits, Sized}
 use Rattle.site.proofs.SpoiltLaws.{Sound, SoundSite, sound-site}
@@ -58,6 +59,13 @@ module _ (x : Site) where
         let h = part-length Holidays (x .holidays) (x .dates) (s .dates) (sized .dates) in
         let l = part-length Levels (x .levels) (x .tables) (s .tables) (sized .tables) in
         ap length is-four ∙ simp length-append (omega arith)
+
+    pub no-longer-file : length (bytesOf x) ≤ longestFile
+    no-longer-file =
+        let e = fits Entries (x .entries) (s .plan .allowed) in
+        let h = fits Holidays (x .holidays) (s .dates .allowed) in
+        let l = fits Levels (x .levels) (s .tables .allowed) in
+        omega (arith, length-file)
 
     -- The sections stored one behind the other, from the front of o on, are the file over the front of o.
     pub four-stores : (o : List ℕ) (a b c : ℕ)

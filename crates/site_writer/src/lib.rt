@@ -2,13 +2,13 @@
 ghost use mathlib.Core.Path.{_≡_};
 ghost use mathlib.Core.Bool.{false};
 ghost use mathlib.Core.List.{_++_};
-ghost use Prim.Native.Nat.{_+_, _*_, _≤_};
+ghost use Prim.Native.Nat.{_+_, _*_, _≤_, _<_};
 ghost use lib.ListN.{length, take, drop};
 ghost use lib.Seq.{sets};
 ghost use Rattle.numbers.specs.Words.{bytes};
 ghost use Rattle.ranges.specs.Sections.{sizeOf};
 ghost use Rattle.site.specs.Record.{spoiltSite};
-ghost use Rattle.site.specs.Reading.{readOf};
+ghost use Rattle.site.specs.Reading.{longestFile, readOf};
 ghost use Rattle.site.specs.Writing.{partOf, bytesOf, writtenOf, outOf};
 use output::Written;
 use ranges::Section;
@@ -53,11 +53,13 @@ fn store_site(site: Site, out: &mut [u8]) -> usize
     store_section(out, levels, Section::Levels, site.levels, &tables)
 }
 
-// Writes the record's file to the front of out. What is written reads back as that record.
+// Writes the record's file to the front of out. What is written reads back as that record. A buffer with
+// room for the longest file is never too small.
 pub fn write(site: Site, out: &mut [u8]) -> Written
     ensures answer { λ r. ⌜ r ≡ writtenOf site (now (out .entry)) ⌝ }
     ensures buffer { λ _. ⌜ now (out .exit) ≡ outOf site (now (out .entry)) ⌝ }
     ensures back { λ r. ⌜ (r .refusal ≡ 0 → readOf (take (r .count) (now (out .exit))) ≡ record { refusal = 0; place = 0; site = site }) ⌝ }
+    ensures room { λ r. ⌜ (r .refusal ≡ 11 → length (now (out .entry)) < longestFile) ⌝ }
 {
     if site::spoilt(site) {
         return output::refused_write(site::SPOILT_SITE);

@@ -38,8 +38,7 @@ pub record EntryInForce (x : Site) (clock : Clock) (place : ℕ) : Type 0 where
   pub latest : (day minute : ℕ) → InForce (x .plan) (x .entries) day minute (inForceOf (x .plan) (x .entries) day minute)
   -- and at a day's end each entry of it has begun.
   pub begun : (i : ℕ) → i < x .entries → entryOf (x .plan) i .start ≤ lastMinute
-  -- And the day type by which these go, of each date, in the words of both documents; of the one that they give, `decide` and the tick
-  -- promise the same (`day`).
+  -- And the day type of each date, by which these go, in the words of both documents.
   pub typed : (date : Date) → isDate date ≡ true → Typed date (x .dates) (x .holidays) (dayTypeOf date (x .dates) (x .holidays))
 
 unfoldable pub commandInForce : Site → Clock → Command → Command → Command

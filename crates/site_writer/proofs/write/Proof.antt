@@ -1,6 +1,7 @@
--- The three outcomes of a write. What is written reads back, by `reads-back`.
+-- The three outcomes of a write. What is written reads back, by `reads-back`; no file is longer than the longest, by `no-longer-file`.
 use Rattle.site.proofs.RoundTrip.{reads-back}
 use Rattle.site.proofs.Sizes.{Sized}
+use Rattle.site.proofs.WriteLaws.{no-longer-file}
 use Rattle.site.specs.Writing.{bytesOf}
 use Rattle.site.specs.Record.{spoiltSite}
 use Rattle.output.proofs.OutputLaws.{earlier-refused, too-small, accepted}
@@ -8,7 +9,7 @@ use Rattle.output.specs.Output.{acceptedWrite}
 use Rattle.output.specs.declared.Written.{Written}
 use lib.Seq.{take-at}
 use lib.ListN.{length}
-use Prim.Native.Nat.{ℕ, _≤_}
+use Prim.Native.Nat.{ℕ, _≤_, _<_}
 use mathlib.Core.Bool.{false}
 use mathlib.Core.Path.{_≡_, refl, ap, sym, _∙_}
 use native.Mathlib.Omega.{arith}
@@ -36,8 +37,10 @@ returns : tie.Need-returns
 returns c =
     let a = c .before .before .before .before .args in
     let o = earlier-refused 14 (bytesOf (a .site)) (now (a .out)) (λ z. omega arith) in
-    rw (sym (c .before .before .spoilt .ensures) ∙ c .before .if1 .taken)
-    (c .refused-write .ensures ∙ o .answers, (o .leaves, λ z. absurd (omega (arith, refusal-of _ (c .refused-write .ensures)))))
+    rw (sym (c .before .before .spoilt .ensures) ∙ c .before .if1 .taken) (
+      c .refused-write .ensures ∙ o .answers,
+      (o .leaves, ((λ z. absurd (omega (arith, refusal-of _ (c .refused-write .ensures)))), (λ z. absurd (omega (arith, refusal-of _ (c .refused-write .ensures)))))),
+    )
 
 file-size-requires : tie.Need-file-size-requires
 file-size-requires c κs = not-spoilt c
@@ -48,8 +51,19 @@ refused-write-requires-2 c κs = search needs
 returns-2 : tie.Need-returns-2
 returns-2 c =
     let a = c .before .before .before .before .before .before .args in
-    let o = too-small (bytesOf (a .site)) (now (a .out)) (omega (arith, c .before .before .file-size .ensures)) in
-    rw (not-spoilt (c .before .before .before)) (c .refused-write2 .ensures ∙ o .answers, (o .leaves, λ z. absurd (omega (arith, refusal-of _ (c .refused-write2 .ensures)))))
+    let n = not-spoilt (c .before .before .before) in
+    let short : length (now (a .out)) < length (bytesOf (a .site)) = omega (arith, c .before .before .file-size .ensures) in
+    let o = too-small (bytesOf (a .site)) (now (a .out)) short in
+    rw n (
+      c .refused-write2 .ensures ∙ o .answers,
+      (
+        o .leaves,
+        (
+          (λ z. absurd (omega (arith, refusal-of _ (c .refused-write2 .ensures)))),
+          (λ z. omega (arith, short, no-longer-file (a .site) (sized (c .before .before .before .before .before .before)) n)),
+        ),
+      ),
+    )
 
 store-site-requires : tie.Need-store-site-requires
 store-site-requires c κs = (not-spoilt (c .before .before .before), omega (arith, c .before .before .file-size .ensures))
@@ -73,7 +87,10 @@ returns-3 c =
       w ∙ o .answers,
       (
         p .store-site .ensures .1 ∙ o .leaves,
-        λ z. rw (w, p .store-site .ensures .1, take-at (bytesOf x) _ (length (bytesOf x)) refl) (reads-back x (sized s) n),
+        (
+          (λ z. rw (w, p .store-site .ensures .1, take-at (bytesOf x) _ (length (bytesOf x)) refl) (reads-back x (sized s) n)),
+          (λ z. absurd (omega (arith, ap (λ (r : Written). r .refusal) w))),
+        ),
       ),
     )
 

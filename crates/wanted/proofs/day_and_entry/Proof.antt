@@ -18,7 +18,7 @@ day-and-entry-requires c κs = search needs
 
 returns : tie.Need-returns
 unfolding dayOf entryInForce
-returns c = (c .day-and-entry .ensures .0, c .day-and-entry .ensures .1 .0)
+returns c = (c .day-and-entry .ensures .0, c .day-and-entry .ensures .1 .1 .0)
 
 pub day-and-entry-spec : {M : Type 1} → statement M
 day-and-entry-spec =

@@ -116,7 +116,7 @@ fn floating(year: u16, month: u16, week: u16, weekday: u16) -> Date {
     }
 }
 
-/// A day of another month is not it; of 1999 only December is walked.
+/// Asked for in the row's month alone: of 1999 only December is walked.
 fn is_floating(date: Date, row: &[u16; 5]) -> bool {
     let [_, month, week, weekday, _] = *row;
     date.month == month && floating(date.year, month, week, weekday) == date
@@ -127,14 +127,14 @@ fn is_dated(date: Date, row: &[u16; 5]) -> bool {
     (date.month, date.day) == (row[1], row[2])
 }
 
-/// Whether this is the date of a row that moves, "1 for a fixed date that moves to the next day when it is a Sunday".
-fn is_moving(date: Date, row: &[u16; 5]) -> bool {
+/// Whether this is the date of a row with "1 for a fixed date that moves to the next day when it is a Sunday".
+fn is_date_that_moves(date: Date, row: &[u16; 5]) -> bool {
     row[0] == 1 && row[4] == 1 && is_dated(date, row)
 }
 
 /// The date of a row that moves is a Sunday: the holiday is the next day.
 pub fn has_left(date: Date, row: &[u16; 5]) -> bool {
-    is_moving(date, row) && weekday(date) == SUNDAY
+    is_date_that_moves(date, row) && weekday(date) == SUNDAY
 }
 
 /// The row's date was yesterday, a Sunday, and it moves. 31 December 1999 was none, and in a common year no day is 29 February.
@@ -144,13 +144,13 @@ pub fn has_moved_to(date: Date, row: &[u16; 5]) -> bool {
 
 /// The date of a row that moves is no Sunday: the holiday is this very day.
 pub fn stays(date: Date, row: &[u16; 5]) -> bool {
-    is_moving(date, row) && weekday(date) != SUNDAY
+    is_date_that_moves(date, row) && weekday(date) != SUNDAY
 }
 
 fn is_fixed(date: Date, row: &[u16; 5]) -> bool {
     match row[4] {
-        0 => is_dated(date, row),
-        _ => stays(date, row) || has_moved_to(date, row),
+        1 => stays(date, row) || has_moved_to(date, row),
+        _ => is_dated(date, row),
     }
 }
 

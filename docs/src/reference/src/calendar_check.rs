@@ -1,6 +1,6 @@
 //! What `crates/calendar_check` prints: how many dates, days and rows it tries, and how many of the rows name a day, over every day of 2000
-//! to 2099. What each row names is held to the page, in other words than the calendar's: these go from a day to a row, here it is from the
-//! row to its day in each year.
+//! to 2099. What each row names is held to the page, in other words than the calendar's: the calendar goes from a day to a row, and here it
+//! is from the row to its day in each year.
 
 use crate::calendar::{day_before, day_type, days, has_moved_to, is_holiday, shifted, weekday, Date, HOLIDAY, SUNDAY};
 use crate::site::days_in;

@@ -173,7 +173,7 @@ fn state_line(state: &State) -> String {
 const SPOILT_IN: [&str; 4] =
     ["sites spoilt in the timings", "sites spoilt in the entries", "sites spoilt in the holidays", "sites spoilt in the levels"];
 
-/// None of a site that is none: nothing is decided there.
+/// No holidays where no file could give the record: nothing is decided there.
 fn holidays(site: &Option<Site>) -> &[[u16; 5]] {
     site.as_ref().map_or(&[], |site| &site.holidays)
 }

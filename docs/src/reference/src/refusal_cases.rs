@@ -70,8 +70,8 @@ fn spoilt_moves() -> Vec<u8> {
     from_power_up(&bytes(&site_with_rows()), &ops.collect::<Vec<Op>>())
 }
 
-/// A date that moves in a record, number by number: the fifth number is allowed as long as the kind is 1. A row that is not in use may not
-/// move; with its kind it may once it is counted.
+/// A date that moves in a record, number by number: the fifth number is allowed as long as the kind is 1. In a row beyond the count it is
+/// spoilt, and once the row has its kind and date and is counted it is not.
 fn moving_record() -> Vec<u8> {
     let mut ops = Vec::new();
     for (place, value) in [(5, 1), (1, 2), (5, 0), (5, 1), (1, 3), (5, 0), (1, 1), (5, 1), (2, 2), (3, 29), (3, 30), (3, 1)] {

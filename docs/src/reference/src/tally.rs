@@ -40,7 +40,7 @@ impl Tally {
     }
 }
 
-/// Which days the holidays that move made, of those asked for and of those looked back over.
+/// How many clocks were on a day that a moving holiday decides, or looked back over one.
 #[derive(Default)]
 struct Moves {
     moved: u64,
@@ -77,7 +77,7 @@ impl Moves {
     }
 }
 
-/// What entries were in force, by how many days ago they began, what moving holidays made of the days, and how often a clock went over
+/// What entries were in force, by how many days ago they began, what days the moving holidays decide, and how often a clock went over
 /// midnight.
 #[derive(Default)]
 pub struct InForce {

@@ -18,8 +18,11 @@ returns c =
     let a = d .before .before .before .args in (
       d .day-type .ensures .0,
       (
-        c .in-force-now .ensures,
-        (λ ok. rw (c .in-force-now .ensures) (is-now (inForceOf (now (a .plan)) (a .entries)) (now (a .dates)) (a .holidays) (a .today) (a .minute) ok)),
+        d .day-type .ensures .1,
+        (
+          c .in-force-now .ensures,
+          (λ ok. rw (c .in-force-now .ensures) (is-now (inForceOf (now (a .plan)) (a .entries)) (now (a .dates)) (a .holidays) (a .today) (a .minute) ok)),
+        ),
       ),
     )
 
