@@ -60,8 +60,8 @@ module _ (x : Site) where
         let l = part-length Levels (x .levels) (x .tables) (s .tables) (sized .tables) in
         ap length is-four ∙ simp length-append (omega arith)
 
-    pub no-longer-file : length (bytesOf x) ≤ longestFile
-    no-longer-file =
+    pub file-most : length (bytesOf x) ≤ longestFile
+    file-most =
         let e = fits Entries (x .entries) (s .plan .allowed) in
         let h = fits Holidays (x .holidays) (s .dates .allowed) in
         let l = fits Levels (x .levels) (s .tables .allowed) in

@@ -1,5 +1,5 @@
--- A site file from before document 02's A6, with holidays: they have rows of four numbers, and all else is as it is now. That such a file
--- is refused is a law (`old-refused`).
+-- A site file from before document 02's A6, with holidays: they have rows of four numbers, and all else is as it is now. A law
+-- (`old-refused`) says that such a file is refused, and with which numbers.
 use Prim.Native.Nat.{ℕ, _+_, _*_, _≤_, _<_}
 use mathlib.Core.Path.{_≡_}
 use mathlib.Core.Bool.{Bool, _||_}
@@ -13,10 +13,11 @@ use Rattle.site.specs.declared.ReadSite.{ReadSite}
 use Rattle.site.specs.declared.Found.{Found}
 use Rattle.site.specs.Reading.{sectionOf}
 
+-- Number i of the file, the first being 0.
 abbrev pub numberAt : List ℕ → ℕ → ℕ
 numberAt f i = getD (words f) i 0
 
--- The plan entries of the file, behind its timings; the holidays' count stands behind them.
+-- Its plan entries, behind the timings; and behind them, where the holidays' count stands, and how many holidays there are.
 abbrev pub entriesOf : List ℕ → Found
 entriesOf f = sectionOf Entries (length f) (words f) (1 + sizeOf Timings (greatestOf Timings))
 

@@ -1,16 +1,21 @@
 -- Document 02, A6: holidays that move from their Sunday to the next day, in the answers of a tick that is the first since power-up; and
--- the site file that has their fifth number. Two proofs, `moved-holidays` and `five-numbers`, show it all.
+-- the site file that has their fifth number, or has not. Three proofs, `moved-holidays`, `five-numbers` and `from-before`, show it all.
 use Prim.Native.Nat.{ℕ, zero, suc, _+_}
 use mathlib.Core.Path.{_≡_}
 use mathlib.Core.Bool.{cond, _&&_}
 use mathlib.Core.List.{List, [], _∷_, _++_}
 use lib.Dec.{eqb}
 use lib.ListN.{length, replicate}
+use Rattle.numbers.specs.Words.{bytes}
+use Rattle.ranges.specs.declared.Section.the-variants.{Timings}
+use Rattle.ranges.specs.Sections.{greatestOf}
 use Rattle.calendar.specs.declared.day.Date.{Date}
 use Rattle.calendar.specs.Dates.{isDate, dateOf, weekdayOf}
 use Rattle.site.specs.declared.Site.{Site}
 use Rattle.site.specs.Reading.{longestFile, refused, readOf}
-use Rattle.site.specs.Writing.{bytesOf}
+use Rattle.site.specs.Writing.{partOf, bytesOf}
+use Rattle.site.specs.RowsOfFour.{RowsOfFour}
+use Rattle.worked_runs.specs.SiteA.{leastSite}
 use Rattle.worked_runs.specs.PastMidnight.{everyDay, siteOf, answered}
 
 -- The fixed date of a month and day, which moves (1) or not (0).
@@ -119,3 +124,22 @@ pub record FiveNumbers : Type 0 where
   pub longest-file : length (bytesOf longest) ≡ longestFile
   pub longest-is : longestFile ≡ 602
   pub longest-accepted : readOf (bytesOf longest) ≡ record { refusal = 0; place = 0; site = longest }
+
+-- A file of before: no plan entries, holidays in rows of four after their count, and one level.
+abbrev pub fileBefore : List ℕ → List ℕ
+fileBefore holidays =
+    bytes (partOf Timings (greatestOf Timings) (leastSite 0 .timings) ++ (0 ∷ (holidays ++ (1 ∷ 1 ∷ 1 ∷ 1 ∷ 1 ∷ 150 ∷ []))))
+
+-- 31 March; 31 March and New Year's Day.
+abbrev pub marchBefore : List ℕ
+marchBefore = fileBefore (1 ∷ 1 ∷ 3 ∷ 31 ∷ 0 ∷ [])
+
+abbrev pub twoBefore : List ℕ
+twoBefore = fileBefore (2 ∷ 1 ∷ 3 ∷ 31 ∷ 0 ∷ 1 ∷ 1 ∷ 1 ∷ 0 ∷ [])
+
+-- Both are what `RowsOfFour` says. The first ends within the levels; in the second New Year's Day's weekday stands where a day should.
+pub record FromBefore : Type 0 where
+  pub march : RowsOfFour marchBefore
+  pub two : RowsOfFour twoBefore
+  pub march-refused : readOf marchBefore ≡ refused 1 60
+  pub two-refused : readOf twoBefore ≡ refused 5 54
