@@ -2,6 +2,7 @@
 use bypass::Bypass;
 use group::Group;
 use lanes::Lanes;
+use many_ticks::Ran;
 use output::Written;
 use period::Counts;
 use period::Periods;
@@ -178,16 +179,26 @@ pub fn powered(refusal: u8) {
     test_output::print(&out, end);
 }
 
-// The refusal, how many bytes were written, and all of the buffer.
-pub fn polled(written: Written, buffer: &[u8]) {
+// A call's word, its refusal, a count, and all of the buffer that it was lent.
+fn print_buffer(word: &[u8], refusal: u8, count: usize, buffer: &[u8]) {
     let mut out = io::large_buffer();
-    let p = text::put_bytes(&mut out, 0, b"poll");
-    let q = phrases::put_blank_and_decimal(&mut out, p, written.refusal as u64);
-    let r = phrases::put_blank_and_decimal(&mut out, q, written.count as u64);
+    let p = text::put_bytes(&mut out, 0, word);
+    let q = phrases::put_blank_and_decimal(&mut out, p, refusal as u64);
+    let r = phrases::put_blank_and_decimal(&mut out, q, count as u64);
     let s = text::put_byte(&mut out, r, b' ');
     let t = tick_text::put_hex(&mut out, s, buffer);
     let end = text::put_byte(&mut out, t, b'\n');
     test_output::print(&out, end);
+}
+
+// The count is of the bytes that were written.
+pub fn polled(written: Written, buffer: &[u8]) {
+    print_buffer(b"poll", written.refusal, written.count, buffer);
+}
+
+// The count is of the ticks that were accepted.
+pub fn ran(ran: Ran, buffer: &[u8]) {
+    print_buffer(b"records", ran.refusal, ran.accepted, buffer);
 }
 
 // The refusal, what was decided, and the cycle at so many vehicles per green.

@@ -34,6 +34,11 @@ const DECIDE: u16 = 7;
 
 const WRITE: u16 = 8;
 
+const RECORDS: u16 = 9;
+
+// The bytes of the records stand behind three numbers.
+const RECORDS_FROM: usize = 6;
+
 // The state is that of power-up at the present site.
 fn power_up(mut run: Run) -> Run {
     let site = run.site;
@@ -141,6 +146,30 @@ fn write_now(run: Run, op: &[u8]) -> Run {
     run
 }
 
+// The records' ticks; gives the state behind them.
+fn run_into(site: Site, before: State, records: &[u8], out: &mut [u8]) -> State {
+    let ran = many_ticks::run(site, before, records, out);
+    let after = ran.state;
+    print::ran(ran, out);
+    print::state(after);
+    after
+}
+
+// All bytes of the records are there: `op_size` has looked.
+fn records(mut run: Run, op: &[u8]) -> Run {
+    let end = RECORDS_FROM + numbers::word(op, 2) as usize;
+    if op.len() < end {
+        return run;
+    }
+    let site = run.site;
+    let before = run.state;
+    let mut buffer = test_output::buffer();
+    let size = test_output::front_length(&buffer, numbers::word(op, 1) as usize);
+    let after = run_into(site, before, &op[RECORDS_FROM..end], &mut buffer[..size]);
+    run.state = after;
+    run
+}
+
 fn run_op(run: Run, op: &[u8]) -> Run {
     let kind = numbers::word(op, 0);
     match kind {
@@ -152,13 +181,21 @@ fn run_op(run: Run, op: &[u8]) -> Run {
         POLL => poll_now(run, op),
         DECIDE => decide_now(run, op),
         WRITE => write_now(run, op),
+        RECORDS => records(run, op),
         _ => run,
     }
 }
 
-// How many numbers an operation has; 0 for one that there is not.
-fn op_numbers(kind: u16) -> usize
-    ensures { λ r. ⌜ r ≤ 115 ⌝ }
+// How many numbers records of so many bytes have as an operation, with a byte more where these are odd.
+fn record_numbers(bytes: u16) -> usize
+    ensures { λ r. ⌜ r ≤ 32771 ⌝ }
+{
+    3 + (bytes as usize + 1) / 2
+}
+
+// How many numbers an operation has, records by their bytes; 0 for one that there is not.
+fn op_numbers(kind: u16, bytes: u16) -> usize
+    ensures { λ r. ⌜ r ≤ 32771 ⌝ }
 {
     match kind {
         TICKS => 47,
@@ -169,6 +206,7 @@ fn op_numbers(kind: u16) -> usize
         POLL => 2,
         DECIDE => 14,
         WRITE => 2,
+        RECORDS => record_numbers(bytes),
         _ => 0,
     }
 }
@@ -177,7 +215,7 @@ fn op_numbers(kind: u16) -> usize
 fn op_size(ops: &[u8]) -> usize
     ensures { λ r. ⌜ r ≤ length (now (ops .entry)) ⌝ }
 {
-    let size = op_numbers(numbers::word(ops, 0)) * 2;
+    let size = op_numbers(numbers::word(ops, 0), numbers::word(ops, 2)) * 2;
     if ops.len() < size {
         return 0;
     }

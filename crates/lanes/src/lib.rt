@@ -122,10 +122,9 @@ fn ending_of(e: Endings, k: u16) -> Ending
 }
 
 // Lane i one tick later, with its passage sample; one that the site lacks stays as it is.
-fn tick_at(t: Timings, endings: Endings, s: Lanes, passage: u16, i: u16) -> Lane
-    ensures { λ r. ⌜ r ≡ laneTickAt t endings s passage i ⌝ }
+fn tick_at(t: Timings, endings: Endings, lane: Lane, passage: u16, i: u16) -> Lane
+    ensures { λ r. ⌜ ((s : Lanes) → lane ≡ laneOf s i → r ≡ laneTickAt t endings s passage i) ⌝ }
 {
-    let lane = lane_at(s, i);
     if t.lanes <= i {
         return lane;
     }
@@ -137,10 +136,10 @@ fn tick_at(t: Timings, endings: Endings, s: Lanes, passage: u16, i: u16) -> Lane
 pub fn tick(t: Timings, endings: Endings, s: Lanes, passage: [u16; 4]) -> Lanes
     ensures { λ r. ⌜ r ≡ lanesTick t endings s passage ⌝ }
 {
-    let a = tick_at(t, endings, s, passage[0], 0);
-    let b = tick_at(t, endings, s, passage[1], 1);
-    let c = tick_at(t, endings, s, passage[2], 2);
-    let d = tick_at(t, endings, s, passage[3], 3);
+    let a = tick_at(t, endings, lane_at(s, 0), passage[0], 0);
+    let b = tick_at(t, endings, lane_at(s, 1), passage[1], 1);
+    let c = tick_at(t, endings, lane_at(s, 2), passage[2], 2);
+    let d = tick_at(t, endings, lane_at(s, 3), passage[3], 3);
     of_lanes(a, b, c, d, interval::rise(s.offset), s.last)
 }
 

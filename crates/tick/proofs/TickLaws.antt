@@ -1,8 +1,9 @@
 -- What an accepted tick has been checked for, its entry and its cycle, and that it keeps the state in range.
 use Prim.Native.Nat.{ℕ, _≤_}
-use mathlib.Core.Path.{_≡_, refl}
+use mathlib.Core.Path.{_≡_, refl, sym}
 use mathlib.Core.Bool.{Bool, true, false, cond}
 use native.Mathlib.Omega.{arith}
+use borrow.Author.Tests.{eqb-true, eq-eqb}
 use lib.Dec.{eqb}
 use Rattle.loops.proofs.AnyLaws.{neither}
 use Rattle.loops.proofs.Cases.{by-test}
@@ -10,6 +11,7 @@ use Rattle.site.specs.declared.Site.{Site}
 use Rattle.site.specs.Record.{spoiltSite}
 use Rattle.site.specs.Named.{timingsOf, meteredLanes, mainlineLanes, shapeOf}
 use Rattle.site.proofs.TimingLaws.{timings-good}
+use Rattle.timings.specs.declared.Shape.{Shape}
 use Rattle.calendar.specs.Clock.{clockBad}
 use Rattle.calendar.specs.Named.{Typed}
 use Rattle.inputs.specs.Samples.{samplesBad, callsBad}
@@ -39,7 +41,7 @@ use Rattle.serving.specs.Bypassed.{Bypassed}
 use Rattle.serving.proofs.BypassedLaws.{bypassed}
 use Rattle.tick.specs.declared.Input.{Input}
 use Rattle.tick.specs.Checks.{sampleBad, inputRefusal, tickRefusal}
-use Rattle.tick.specs.Tick.{countedIn, decidedIn, cycleIn, movedIn, acceptedTick}
+use Rattle.tick.specs.Tick.{countedIn, decidedIn, cycleIn, movedIn, decidedOf, finishedWith, acceptedTick, refusedTick, tickOf}
 use Rattle.tick.specs.Cycle.{MeteringCycle, Cycled}
 
 pub record Accepted (x : Site) (s : State) (i : Input) : Type 0 where
@@ -54,16 +56,33 @@ passes : (b : Bool) (k rest : ℕ) → 1 ≤ k → cond b k rest ≡ 0 → (b �
 passes true k rest h e = absurd (omega arith)
 passes false k rest h e = (refl, e)
 
+-- An input that no check refuses, at a site of this shape.
+pub record Fine (h : Shape) (i : Input) : Type 0 where
+  pub clock : clockBad (i .clock) ≡ false
+  pub samples : samplesBad (i .lanes) (i .main) (h .lanes) (h .mainline) ≡ false
+  pub commands : commandsBad (i .manual) (i .centre) ≡ false
+
+pub fine : (h : Shape) (i : Input) → inputRefusal h i ≡ 0 → Fine h i
+unfolding inputRefusal sampleBad
+fine h i e =
+    let r = passes (clockBad (i .clock)) 8 _ (omega arith) e in
+    let u = passes (sampleBad h i) 9 _ (omega arith) (r .1) in
+    let w = neither (samplesBad (i .lanes) (i .main) (h .lanes) (h .mainline)) (callsBad (i .calls)) (u .0) .0 in
+    let v = passes (commandsBad (i .manual) (i .centre)) 10 0 (omega arith) (u .1) in
+    record { clock = r .0; samples = w; commands = v .0 }
+
 pub accepted : (x : Site) (s : State) (i : Input) → tickRefusal x s i ≡ 0 → Accepted x s i
-unfolding tickRefusal inputRefusal sampleBad
+unfolding tickRefusal
 accepted x s i e =
     let p = passes (spoiltSite x) 14 _ (omega arith) e in
     let q = passes (stateSpoilt s (shapeOf x)) 13 _ (omega arith) (p .1) in
-    let r = passes (clockBad (i .clock)) 8 _ (omega arith) (q .1) in
-    let u = passes (sampleBad (shapeOf x) i) 9 _ (omega arith) (r .1) in
-    let w = neither (samplesBad (i .lanes) (i .main) (meteredLanes x) (mainlineLanes x)) (callsBad (i .calls)) (u .0) .0 in
-    let v = passes (commandsBad (i .manual) (i .centre)) 10 0 (omega arith) (u .1) in
-    record { site = p .0; state = q .0; clock = r .0; samples = w; commands = v .0 }
+    let f = fine (shapeOf x) i (q .1) in
+    record { site = p .0; state = q .0; clock = f .clock; samples = f .samples; commands = f .commands }
+
+-- The input's checks are among the tick's.
+pub input-passed : (x : Site) (s : State) (i : Input) → tickRefusal x s i ≡ 0 → inputRefusal (shapeOf x) i ≡ 0
+unfolding tickRefusal
+input-passed x s i e = passes (stateSpoilt s (shapeOf x)) 13 _ (omega arith) (passes (spoiltSite x) 14 _ (omega arith) e .1) .1
 
 -- The timings of a site that is not spoilt.
 pub sound-timings : (x : Site) → spoiltSite x ≡ false → Sound (timingsOf x)
@@ -105,6 +124,13 @@ module _ (vehicles : ℕ) (one : 1 ≤ vehicles) (three : vehicles ≤ 3) where
   least-of-wish (Metering rate) g e = metering-cycle rate g .least
   least-of-wish Clear g e = absurd (omega arith)
 
+-- The cycle of a wish in range is 720 ticks at the most, at any site.
+pub cycle-fits : (x : Site) (w : Wish) → spoiltSite x ≡ false → WishGood w → cycleTicks (timingsOf x .vehicles) (rateOf w) ≤ 720
+cycle-fits x w ok good =
+    let g = timings-good x ok in
+    let vehicles = timingsOf x .vehicles in
+    rate-cases w (λ r. cycleTicks vehicles r ≤ 720) good (rw (no-cycle vehicles) (omega arith)) (λ r h. cycle-most vehicles r (g .vehicles-most) h)
+
 module _ (x : Site) (s : State) (i : Input) (a : Accepted x s i) where
   wish-in : WishGood (decidedIn x s i .wish)
   unfolding decidedIn
@@ -129,11 +155,7 @@ module _ (x : Site) (s : State) (i : Input) (a : Accepted x s i) where
   -- At any wish it is 720 ticks at the most, and 20 at the least where metering goes on.
   pub cycle-in : cycleIn x s i ≤ 720
   unfolding cycleIn
-  cycle-in =
-      let g = timings-good x (a .site) in
-      let vehicles = timingsOf x .vehicles in
-      rate-cases (decidedIn x s i .wish) (λ r. cycleTicks vehicles r ≤ 720) wish-in (rw (no-cycle vehicles) (omega arith))
-      (λ r h. cycle-most vehicles r (g .vehicles-most) h)
+  cycle-in = cycle-fits x (decidedIn x s i .wish) (a .site) wish-in
 
   pub least-cycle : fromMetering (steeredWish (i .calls .preemption) (decidedIn x s i .wish)) ≡ 7 → 20 ≤ cycleIn x s i
   unfolding cycleIn steeredWish
@@ -180,3 +202,26 @@ pub tick-steered : (x : Site) (s : State) (i : Input)
     → Steered (timingsOf x) (i .calls .preemption) (acceptedTick x s i .decision .wish) (s .group) (acceptedTick x s i .state .group .interval)
 unfolding acceptedTick movedIn movedOf movedWith groupOf
 tick-steered x s i = steered (timingsOf x) (i .calls .preemption) (decidedIn x s i .wish) (s .group)
+
+-- Where site and state are in range, the input's checks alone can refuse.
+pub input-alone : (x : Site) (s : State) (i : Input) → spoiltSite x ≡ false → stateSpoilt s (shapeOf x) ≡ false → tickRefusal x s i ≡ inputRefusal (shapeOf x) i
+unfolding tickRefusal
+input-alone x s i a b = rw (a, b)
+
+-- A tick answers what its checks do; where that is 0, it is what the rules make of it, and its state is in range again.
+module _ (x : Site) (s : State) (i : Input) where
+  pub refusal-is : tickOf x s i .refusal ≡ tickRefusal x s i
+  unfolding tickOf acceptedTick refusedTick
+  refusal-is = by-test (eqb (tickRefusal x s i) 0) (λ e. rw e (sym (eqb-true (tickRefusal x s i) 0 e))) (λ e. rw e)
+
+  pub tick-is : tickRefusal x s i ≡ 0 → tickOf x s i ≡ acceptedTick x s i
+  unfolding tickOf
+  tick-is e = rw (eq-eqb (tickRefusal x s i) 0 e)
+
+  pub tick-kept : tickRefusal x s i ≡ 0 → StateGood (tickOf x s i .state) (shapeOf x)
+  tick-kept e = rw (tick-is e) (tick-keeps x s i (accepted x s i e))
+
+-- An accepted tick, by its parts.
+pub by-parts : (x : Site) (s : State) (i : Input) → acceptedTick x s i ≡ finishedWith (timingsOf x) (s .group) i (countedIn x s i) (decidedOf x i (countedIn x s i))
+unfolding acceptedTick movedIn decidedIn cycleIn finishedWith decidedOf
+by-parts x s i = refl

@@ -5,6 +5,7 @@ use lib.Dec.{ltb, eqb}
 use Rattle.site.specs.declared.Site.{Site}
 use Rattle.site.specs.Record.{spoiltSite}
 use Rattle.site.specs.Named.{timingsOf, meteredLanes, mainlineLanes}
+use Rattle.timings.specs.declared.Timings.{Timings}
 use Rattle.period.specs.declared.Periods.{Periods}
 use Rattle.period.specs.Counting.{afterTick, afterRelease}
 use Rattle.wanted.specs.declared.Decision.{Decision}
@@ -13,12 +14,14 @@ use Rattle.wanted.specs.Decision.{decisionOf, noDecision}
 use Rattle.release.specs.Cycle.{cycleTicks}
 use Rattle.bypass.specs.declared.Doing.the-variants.{None}
 use Rattle.bypass.specs.Lanes.{doingOf}
+use Rattle.group.specs.declared.Group.{Group}
 use Rattle.group.specs.declared.Moved.{Moved}
 use Rattle.group.specs.Group.{movedOf}
 use Rattle.group.specs.Indications.{indicationsOf, allDark}
 use Rattle.state.specs.declared.State.{State}
 use Rattle.state.specs.State.{freshState, zeroState}
 use Rattle.tick.specs.declared.Input.{Input}
+use Rattle.tick.specs.declared.DecidedTick.{DecidedTick}
 use Rattle.tick.specs.declared.Ticked.{Ticked}
 use Rattle.tick.specs.declared.PoweredUp.{PoweredUp}
 use Rattle.tick.specs.Checks.{tickRefusal}
@@ -53,6 +56,26 @@ acceptedTick x s i =
       cycle = cycleIn x s i;
       released = moved .released;
       bypass = doingOf (timingsOf x) (moved .group .bypass) (moved .group .lanes);
+    }
+
+-- The same by its parts: what a counted tick decides, with its cycle,
+unfoldable pub decidedOf : Site → Input → Periods → DecidedTick
+decidedOf x i counted =
+    let decision : Decision = decisionOf x (i .clock) (i .manual) (i .centre) counted in
+    record { decision = decision; cycle = cycleTicks (timingsOf x .vehicles) (rateOf (decision .wish)) }
+
+-- and what becomes of a group with these timings, counted and decided.
+unfoldable pub finishedWith : Timings → Group → Input → Periods → DecidedTick → Ticked
+finishedWith t g i counted decided =
+    let moved : Moved = movedOf t (i .calls) (decided .decision .wish) (decided .cycle) (i .lanes) g in
+    record {
+      refusal = 0;
+      state = record { group = moved .group; periods = afterRelease counted (moved .released) };
+      shown = indicationsOf (moved .group) (t .lanes);
+      decision = decided .decision;
+      cycle = decided .cycle;
+      released = moved .released;
+      bypass = doingOf t (moved .group .bypass) (moved .group .lanes);
     }
 
 -- "A refused tick returns the state that came. After 13 or 14 its indications are all dark with the sign off; after 8-10 they are those of

@@ -1,7 +1,9 @@
 // Power-up, and the tick: one call per tenth of a second.
 ghost use mathlib.Core.Path.{_≡_};
-ghost use Prim.Native.Nat.{_≤_};
+ghost use Prim.Native.Nat.{ℕ, _≤_, _<_};
 ghost use mathlib.Core.Bool.{false};
+ghost use lib.ListN.{getD};
+ghost use Rattle.site.specs.Record.{spoiltSite};
 ghost use Rattle.site.specs.Named.{timingsOf, shapeOf};
 ghost use Rattle.wanted.specs.Wish.{rateOf};
 ghost use Rattle.calendar.specs.Named.{Typed};
@@ -12,21 +14,24 @@ ghost use Rattle.group.specs.Searched.{Searched};
 ghost use Rattle.serving.specs.Bypassed.{Bypassed};
 ghost use Rattle.state.specs.State.{stateSpoilt};
 ghost use Rattle.tick.specs.Checks.{sampleBad, inputRefusal, tickRefusal};
-ghost use Rattle.tick.specs.Tick.{powerUpOf, acceptedTick, refusedTick, tickOf};
+ghost use Rattle.tick.specs.Tick.{powerUpOf, decidedOf, finishedWith, acceptedTick, refusedTick, tickOf};
 ghost use Rattle.tick.specs.Cycle.{Cycled};
 ghost use Rattle.tick.specs.Waiting.{WaitingBound};
 ghost use Rattle.tick.specs.Preemption.{PreemptionClears};
 ghost use Rattle.tick.specs.Serving.{BusServed, BusHeld};
 use bypass::Doing;
 use calendar::Clock;
+use group::Group;
 use group::Indications;
 use inputs::Calls;
 use inputs::Command;
 use inputs::Mainline;
 use inputs::Metered;
+use period::Periods;
 use site::Site;
 use state::State;
 use timings::Shape;
+use timings::Timings;
 use wanted::Decision;
 use wanted::Wish;
 
@@ -52,6 +57,12 @@ pub struct Ticked {
     pub cycle: u16,
     pub released: u16,
     pub bypass: Doing,
+}
+
+// What a tick decides, and the cycle of a wish to meter or 0.
+pub struct DecidedTick {
+    pub decision: Decision,
+    pub cycle: u16,
 }
 
 // What power-up gives: the refusal, or 0, and the state.
@@ -95,7 +106,7 @@ fn sample_bad(shape: Shape, input: Input) -> bool
 }
 
 // Which check refuses a tick's input, or 0.
-fn input_refusal(shape: Shape, input: Input) -> u8
+pub fn input_refusal(shape: Shape, input: Input) -> u8
     ensures { λ r. ⌜ r ≡ inputRefusal shape input ⌝ }
 {
     let clock = input.clock;
@@ -135,27 +146,37 @@ fn cycle_of(vehicles: u16, wish: Wish) -> u16
     release::cycle_ticks(vehicles, wanted::rate_of(wish)) as u16
 }
 
-// A tick that no check refuses. The state stays in range, so a run of ticks needs one check of site
-// and state.
-fn advance(site: Site, state: State, input: Input) -> Ticked
-    requires { ⌜ tickRefusal site state input ≡ 0 ⌝ }
-    ensures is { λ r. ⌜ r ≡ acceptedTick site state input ⌝ }
-    ensures kept { λ r. ⌜ stateSpoilt (r .state) (shapeOf site) ≡ false ⌝ }
+// What a tick with an accepted input decides, once it is counted, and the cycle of its wish.
+pub fn decision_of(site: Site, input: Input, counted: Periods) -> DecidedTick
+    requires { ⌜ (spoiltSite site ≡ false) × (inputRefusal (shapeOf site) input ≡ 0) ⌝ }
+    ensures { λ r. ⌜ r ≡ decidedOf site input counted ⌝ }
 {
     let t = site::timings_of(site);
-    let lanes = input.lanes;
-    let main = input.main;
-    let periods = state.periods;
-    let counted = period::after_tick(periods, lanes, main, t.lanes, t.mainline);
     let clock = input.clock;
     let manual = input.manual;
     let centre = input.centre;
     let decision = wanted::wanted_now(site, clock, manual, centre, counted);
     let wish = decision.wish;
     let cycle = cycle_of(t.vehicles, wish);
-    let group = state.group;
+    DecidedTick { decision, cycle }
+}
+
+// The rest of an accepted tick, once it is counted and decided: the group, its release and its lamps.
+pub fn finished(
+    t: Timings,
+    group: Group,
+    input: Input,
+    counted: Periods,
+    decided: DecidedTick,
+) -> Ticked
+    requires { ⌜ ((i : ℕ) → i < 4 → (getD (counted .current .greens) i 0 ≤ 300) × (getD (counted .last .greens) i 0 ≤ 300)) ⌝ }
+    ensures { λ r. ⌜ r ≡ finishedWith t group input counted decided ⌝ }
+{
     let calls = input.calls;
-    let moved = group::tick(t, calls, wish, cycle, lanes, group);
+    let lanes = input.lanes;
+    let decision = decided.decision;
+    let wish = decision.wish;
+    let moved = group::tick(t, calls, wish, decided.cycle, lanes, group);
     let after = moved.group;
     let standing = after.lanes;
     let bypass = after.bypass;
@@ -167,10 +188,27 @@ fn advance(site: Site, state: State, input: Input) -> Ticked
         },
         shown: group::shown(after, t.lanes),
         decision,
-        cycle,
+        cycle: decided.cycle,
         released: moved.released,
         bypass: bypass::does(t, bypass, standing),
     }
+}
+
+// A tick that no check refuses. The state stays in range, so that many ticks need one check of site and
+// state.
+fn advance(site: Site, state: State, input: Input) -> Ticked
+    requires { ⌜ tickRefusal site state input ≡ 0 ⌝ }
+    ensures is { λ r. ⌜ r ≡ acceptedTick site state input ⌝ }
+    ensures kept { λ r. ⌜ stateSpoilt (r .state) (shapeOf site) ≡ false ⌝ }
+{
+    let t = site::timings_of(site);
+    let lanes = input.lanes;
+    let main = input.main;
+    let periods = state.periods;
+    let counted = period::after_tick(periods, lanes, main, t.lanes, t.mainline);
+    let decided = decision_of(site, input, counted);
+    let group = state.group;
+    finished(t, group, input, counted, decided)
 }
 
 // A tick that a check refuses: the state that came.

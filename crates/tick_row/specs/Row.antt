@@ -1,6 +1,7 @@
 -- A tick as one row of numbers, in the order of document 02's tick record: year, month, day and the two halves of the tenth; demand and
 -- passage of each metered lane; working, occupied, vehicles and speed of each mainline lane; preemption and bypass; kind, rate and table of
--- the manual and then of the communications command. Replay's line and the test cases are read by this.
+-- the manual and then of the communications command. Replay's line and the test cases are read by this, and the tick record, which has
+-- counts between, by its parts.
 use Prim.Native.Nat.{ℕ, _+_, _*_}
 use mathlib.Core.Bool.{cond}
 use mathlib.Core.List.{List, [], _∷_}
@@ -17,11 +18,11 @@ use Rattle.tick.specs.declared.Input.{Input}
 unfoldable pub longOf : ℕ → ℕ → ℕ
 longOf high low = high * 65536 + low
 
--- "Year, month, day, and the tenth of the day as high and low halves."
-unfoldable pub clockOf : List ℕ → Clock
-clockOf row = record {
-  date = record { year = getD row 0 0; month = getD row 1 0; day = getD row 2 0 };
-  tenth = longOf (getD row 3 0) (getD row 4 0);
+-- "Year, month, day, and the tenth of the day as high and low halves", from this place on.
+unfoldable pub clockOf : List ℕ → ℕ → Clock
+clockOf row p = record {
+  date = record { year = getD row p 0; month = getD row (p + 1) 0; day = getD row (p + 2) 0 };
+  tenth = longOf (getD row (p + 3) 0) (getD row (p + 4) 0);
 }
 
 -- A number of lane i, which stands at this place; 0 of a lane that there is not.
@@ -32,9 +33,9 @@ ofLane row lanes i place = cond (ltb i lanes) (getD row place 0) 0
 unfoldable pub ofMetered : List ℕ → ℕ → ℕ → List ℕ
 ofMetered row n p = ofLane row n 0 p ∷ ofLane row n 1 (p + 2) ∷ ofLane row n 2 (p + 4) ∷ ofLane row n 3 (p + 6) ∷ []
 
--- "Demand and passage per lane", behind the clock's five numbers.
-unfoldable pub meteredOf : List ℕ → ℕ → Metered
-meteredOf row n = record { demand = ofMetered row n 5; passage = ofMetered row n 6 }
+-- "Demand and passage per lane", from this place on.
+unfoldable pub meteredOf : List ℕ → ℕ → ℕ → Metered
+meteredOf row n p = record { demand = ofMetered row n p; passage = ofMetered row n (p + 1) }
 
 -- The same number of each mainline lane, four numbers a lane.
 unfoldable pub ofMainline : List ℕ → ℕ → ℕ → List ℕ
@@ -79,8 +80,8 @@ longestRow = 45
 -- The tick of a row; "manual first".
 unfoldable pub inputOf : List ℕ → ℕ → ℕ → Input
 inputOf row n m = record {
-  clock = clockOf row;
-  lanes = meteredOf row n;
+  clock = clockOf row 0;
+  lanes = meteredOf row n 5;
   main = mainlineOf row m (mainlineAt n);
   calls = callsOf row (callsAt n m);
   manual = commandOf row (commandsAt n m);

@@ -13,7 +13,9 @@ use tick::Input;
 // The most numbers that a row has: those of four metered and six mainline lanes.
 pub const LONGEST_ROW: usize = 45;
 
-// Where the metered lanes' numbers begin, behind the clock's.
+// Where the clock's numbers and, behind them, the metered lanes' begin.
+const CLOCK: usize = 0;
+
 const METERED: usize = 5;
 
 // How many numbers a metered lane, a mainline lane, the calls and a command have.
@@ -54,22 +56,28 @@ pub fn row_size(n: u16, m: u16) -> usize
 }
 
 // The number of two halves.
-fn long_of(high: u16, low: u16) -> u32
+pub fn long_of(high: u16, low: u16) -> u32
     ensures { λ r. ⌜ r ≡ longOf high low ⌝ }
 {
     (high as u32) * 65536 + (low as u32)
 }
 
-fn clock_of(row: &[u16]) -> Clock
-    ensures { λ r. ⌜ r ≡ clockOf (now (row .entry)) ⌝ }
+// The parts of a tick, each from a place on.
+
+fn clock_of(row: &[u16], p: usize) -> Clock
+    requires { ⌜ p ≤ 1000000 ⌝ }
+    ensures { λ r. ⌜ r ≡ clockOf (now (row .entry)) p ⌝ }
 {
     Clock {
         date: Date {
-            year: numbers::number_at(row, 0),
-            month: numbers::number_at(row, 1),
-            day: numbers::number_at(row, 2),
+            year: numbers::number_at(row, p),
+            month: numbers::number_at(row, p + 1),
+            day: numbers::number_at(row, p + 2),
         },
-        tenth: long_of(numbers::number_at(row, 3), numbers::number_at(row, 4)),
+        tenth: long_of(
+            numbers::number_at(row, p + 3),
+            numbers::number_at(row, p + 4),
+        ),
     }
 }
 
@@ -96,12 +104,13 @@ fn of_metered(row: &[u16], n: u16, p: usize) -> [u16; 4]
     ]
 }
 
-fn metered_of(row: &[u16], n: u16) -> Metered
-    ensures { λ r. ⌜ r ≡ meteredOf (now (row .entry)) n ⌝ }
+fn metered_of(row: &[u16], n: u16, p: usize) -> Metered
+    requires { ⌜ p ≤ 900000 ⌝ }
+    ensures { λ r. ⌜ r ≡ meteredOf (now (row .entry)) n p ⌝ }
 {
     Metered {
-        demand: of_metered(row, n, METERED),
-        passage: of_metered(row, n, METERED + 1),
+        demand: of_metered(row, n, p),
+        passage: of_metered(row, n, p + 1),
     }
 }
 
@@ -161,8 +170,8 @@ pub fn input_of(row: &[u16], n: u16, m: u16) -> Input
     let calls = calls_at(n, m);
     let commands = commands_at(n, m);
     Input {
-        clock: clock_of(row),
-        lanes: metered_of(row, n),
+        clock: clock_of(row, CLOCK),
+        lanes: metered_of(row, n, METERED),
         main: mainline_of(row, m, main),
         calls: calls_of(row, calls),
         manual: command_of(row, commands),

@@ -5,12 +5,9 @@ use borrow.Author.Needs.{needs}
 use Rattle.lanes.proofs.tick_at.Statement.{statement}
 use Rattle.lanes.proofs.tick_at.Tie as tie
 
-lane-at-requires : tie.Need-lane-at-requires
-lane-at-requires c κs = search needs
-
 returns : tie.Need-returns
 unfolding laneTickAt
-returns c = rw (le-ltb _ _ (c .if1 .taken)) (c .before .before .lane-at .ensures)
+returns c = λ s is. rw (le-ltb _ _ (c .if1 .taken)) is
 
 add-ending-of : tie.Need-add-ending-of
 add-ending-of c = search needs
@@ -23,7 +20,7 @@ lane-tick-requires c κs = search needs
 
 returns-2 : tie.Need-returns-2
 unfolding laneTickAt
-returns-2 c = rw (lt-ltb _ _ (c .before .before .if1 .left), ← c .before .ending-of .ensures, ← c .before .before .before .before .lane-at .ensures) (c .lane-tick .ensures)
+returns-2 c = λ s is. rw (lt-ltb _ _ (c .before .before .if1 .left), ← c .before .ending-of .ensures, ← is) (c .lane-tick .ensures)
 
 pub tick-at-spec : {M : Type 1} → statement M
-tick-at-spec = tie.close (tie.spec lane-at-requires returns add-ending-of ending-of-requires lane-tick-requires returns-2)
+tick-at-spec = tie.close (tie.spec returns add-ending-of ending-of-requires lane-tick-requires returns-2)

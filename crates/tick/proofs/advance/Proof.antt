@@ -1,14 +1,12 @@
--- Counts, what is wanted, group and lanes, release: each as the definition has it.
+-- Counted, decided and finished: the accepted tick by its parts.
 use Rattle.tick.specs.declared.Ticked.{Ticked}
 use Rattle.state.specs.State.{stateSpoilt}
-use Rattle.tick.specs.Tick.{countedIn, decidedIn, cycleIn, movedIn, acceptedTick}
-use Rattle.tick.proofs.TickLaws.{Accepted, accepted, cycle-in, tick-keeps}
-use Rattle.site.specs.Named.{meteredLanes, mainlineLanes, shapeOf}
-use Rattle.wanted.specs.Decision.{decisionOf}
-use Rattle.wanted.proofs.ClockLaws.{tenth-good}
+use Rattle.tick.specs.Tick.{countedIn, decidedOf, finishedWith, acceptedTick}
+use Rattle.tick.proofs.TickLaws.{Accepted, accepted, input-passed, tick-keeps, by-parts}
+use Rattle.site.specs.Named.{timingsOf, meteredLanes, mainlineLanes, shapeOf}
 use Rattle.period.proofs.RangeLaws.{periods-good, good-periods, periods-room}
 use Rattle.state.proofs.StateLaws.{state-good, good-state}
-use mathlib.Core.Path.{_≡_, ap, _∙_}
+use mathlib.Core.Path.{_≡_, ap, ap₂, sym, _∙_}
 use borrow.Author.Needs.{needs}
 use Rattle.tick.proofs.advance.Statement.{statement}
 use Rattle.tick.proofs.advance.Tie as tie
@@ -20,44 +18,15 @@ counted : (c : tie.After-after-tick) → let a = c .before .before .before .befo
 unfolding countedIn
 counted c = c .after-tick .ensures .0 ∙ rw (c .before .before .before .before .timings-of .ensures)
 
-decided : (c : tie.After-wanted-now) → let a = c .before .before .before .before .before .before .before .before .before .args in c .wanted-now .result ≡ decidedIn (a .site) (a .state) (a .input)
-unfolding decidedIn
-decided c =
-    let a = c .before .before .before .before .before .before .before .before .before .args in
-    let i = a .input in
-    c .wanted-now .ensures ∙ ap (decisionOf (a .site) (i .clock) (i .manual) (i .centre)) (counted (c .before .before .before .before))
-
-cycled : (c : tie.After-cycle-of) → let a = c .before .before .before .before .before .before .before .before .before .before .args in c .cycle-of .result ≡ cycleIn (a .site) (a .state) (a .input)
-unfolding cycleIn
-cycled c = c .cycle-of .ensures ∙ rw (c .before .before .before .before .before .before .before .before .before .timings-of .ensures, decided (c .before))
-
-moved : (c : tie.After-tick) → let a = c .before .before .before .before .before .before .before .before .before .before .before .before .before .args in c .tick .result ≡ movedIn (a .site) (a .state) (a .input)
-unfolding movedIn
-moved c = c .tick .ensures ∙ rw (c .before .before .before .before .before .before .before .before .before .before .before .before .timings-of .ensures, decided (c .before .before .before .before), cycled (c .before .before .before))
-
-is : (c : tie.After-does) → let m = c .before .before .before .before .before .before in let a = m .before .before .before .before .before .before .before .before .before .before .before .before .before .args in
-    record {
-      refusal = 0;
-      state = record { group = m .tick .result .group; periods = c .before .before .after-release .result };
-      shown = c .before .shown .result;
-      decision = m .before .before .before .before .wanted-now .result;
-      cycle = m .before .before .before .cycle-of .result;
-      released = m .tick .result .released;
-      bypass = c .does .result;
-    } ≡ acceptedTick (a .site) (a .state) (a .input)
-unfolding acceptedTick
+is : (c : tie.After-finished) → let a = c .before .before .before .before .before .before .before .before .args in c .finished .result ≡ acceptedTick (a .site) (a .state) (a .input)
 is c =
-    let m = c .before .before .before .before .before .before in
-    rw (
-      c .does .ensures,
-      c .before .shown .ensures,
-      m .before .before .before .before .before .before .before .before .before .before .before .before .timings-of .ensures,
-      c .before .before .after-release .ensures,
-      moved m,
-      decided (m .before .before .before .before),
-      cycled (m .before .before .before),
-      counted (m .before .before .before .before .before .before .before .before),
-    )
+    let a = c .before .before .before .before .before .before .before .before .args in
+    let p = c .before .before .before in
+    let d : c .before .before .decision-of .result ≡ decidedOf (a .site) (a .input) (countedIn (a .site) (a .state) (a .input)) =
+    c .before .before .decision-of .ensures ∙ ap (decidedOf (a .site) (a .input)) (counted p) in
+    c .finished .ensures
+    ∙ rw (c .before .before .before .before .before .before .before .timings-of .ensures)
+    (ap₂ (finishedWith (timingsOf (a .site)) (a .state .group) (a .input)) (counted p) d ∙ sym (by-parts (a .site) (a .state) (a .input)))
 
 timings-of-requires : tie.Need-timings-of-requires
 timings-of-requires c κs = search needs
@@ -71,36 +40,23 @@ after-tick-requires c κs =
     let p = passed s in
     rw (c .before .before .before .timings-of .ensures) (good-periods (a .state .periods) n m (state-good (a .state) (shapeOf (a .site)) (p .state) .periods), p .samples)
 
-wanted-now-requires : tie.Need-wanted-now-requires
-wanted-now-requires c κs = let s = c .before .before .before .before .before .before .before .before in tenth-good (s .args .input .clock) (passed s .clock)
-
-cycle-of-requires : tie.Need-cycle-of-requires
-unfolding cycleIn
-cycle-of-requires c κs =
-    let s = c .before .before .before .before .before .before .before .before .before in
+decision-of-requires : tie.Need-decision-of-requires
+decision-of-requires c κs =
+    let s = c .before .before .before .before .before in
     let a = s .args in
-    rw (c .before .before .before .before .before .before .before .before .timings-of .ensures, decided c) (cycle-in (a .site) (a .state) (a .input) (passed s))
+    (passed s .site, input-passed (a .site) (a .state) (a .input) (s .pre))
 
-tick-requires : tie.Need-tick-requires
-tick-requires c κs = search needs
-
-after-release-requires : tie.Need-after-release-requires
-after-release-requires c κs =
-    let r = c .before .before .before .before .before .before .before .before .before .before .before in
+finished-requires : tie.Need-finished-requires
+finished-requires c κs =
+    let r = c .before .before in
     let a = r .before .before .before .before .before .args in
     let n = meteredLanes (a .site) in
     let m = mainlineLanes (a .site) in
     periods-room (r .after-tick .result) n m (periods-good (r .after-tick .result) n m (rw (r .before .before .before .before .timings-of .ensures) at (r .after-tick .ensures .1)))
 
-shown-requires : tie.Need-shown-requires
-shown-requires c κs = search needs
-
-does-requires : tie.Need-does-requires
-does-requires c κs = search needs
-
 returns : tie.Need-returns
 returns c =
-    let s = c .before .before .before .before .before .before .before .before .before .before .before .before .before .before .before .before .before .before .before in
+    let s = c .before .before .before .before .before .before .before .before in
     let a = s .args in (
       is c,
       ap (λ (r : Ticked). stateSpoilt (r .state) (shapeOf (a .site))) (is c)
@@ -113,10 +69,6 @@ advance-spec =
     (tie.spec
     timings-of-requires
     after-tick-requires
-    wanted-now-requires
-    cycle-of-requires
-    tick-requires
-    after-release-requires
-    shown-requires
-    does-requires
+    decision-of-requires
+    finished-requires
     returns)

@@ -7,14 +7,26 @@ use Rattle.tick_row.proofs.clock_of.Tie as tie
 number-at-requires : tie.Need-number-at-requires
 number-at-requires c κs = search needs
 
+add-number-at : tie.Need-add-number-at
+add-number-at c = search needs
+
 number-at-requires-2 : tie.Need-number-at-requires-2
 number-at-requires-2 c κs = search needs
+
+add-number-at-2 : tie.Need-add-number-at-2
+add-number-at-2 c = search needs
 
 number-at-requires-3 : tie.Need-number-at-requires-3
 number-at-requires-3 c κs = search needs
 
+add-number-at-3 : tie.Need-add-number-at-3
+add-number-at-3 c = search needs
+
 number-at-requires-4 : tie.Need-number-at-requires-4
 number-at-requires-4 c κs = search needs
+
+add-number-at-4 : tie.Need-add-number-at-4
+add-number-at-4 c = search needs
 
 number-at-requires-5 : tie.Need-number-at-requires-5
 number-at-requires-5 c κs = search needs
@@ -31,9 +43,13 @@ clock-of-spec =
     tie.close
     (tie.spec
     number-at-requires
+    add-number-at
     number-at-requires-2
+    add-number-at-2
     number-at-requires-3
+    add-number-at-3
     number-at-requires-4
+    add-number-at-4
     number-at-requires-5
     long-of-requires
     returns)

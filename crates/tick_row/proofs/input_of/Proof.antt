@@ -34,7 +34,10 @@ command-of-requires c κs = omega (arith, c .before .before .before .before .com
 
 add-command-of : tie.Need-add-command-of
 unfolding mainlineAt callsAt commandsAt
-add-command-of c = omega (arith, c .before .before .before .before .before .commands-at .ensures)
+add-command-of c =
+    let p = c .before .before .before .before .before in
+    let start = p .before .before .before .before in
+    omega (arith, p .commands-at .ensures, start .fits .n .fits, start .fits .m .fits)
 
 command-of-requires-2 : tie.Need-command-of-requires-2
 unfolding mainlineAt callsAt commandsAt

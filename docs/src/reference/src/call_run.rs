@@ -6,21 +6,25 @@
 //! 3 a number of the site record set to any value: its section from 0, its place from 1 or 0 for the count, the value;
 //! 4 the site record of the file again; 5 power-up;
 //! 6 poll into a buffer of so many bytes, or of `ROOM` where that is less;
-//! 7 decide: a row of no lanes, whose calls are not looked at; 8 write into such a buffer.
+//! 7 decide: a row of no lanes, whose calls are not looked at; 8 write into such a buffer;
+//! 9 records: the size of such a buffer, the number B of bytes of the tick records, these bytes, and one byte of 0 more where B is odd.
+//! It prints `records`, the refusal, how many ticks were accepted, the buffer, and the state, which is then the present one.
 //! An unknown or a cut operation ends the case.
 
 use crate::bypass::Bypass;
 use crate::bypass_watch;
 use crate::calendar::Clock;
-use crate::output::{Outcome, ROOM};
+use crate::output::{untouched, Outcome, ROOM};
 use crate::periods::Counts;
 use crate::preemption;
 use crate::record::Record;
+use crate::record_tally;
 use crate::row;
 use crate::site::{self, Site};
 use crate::tally::{InForce, Tally};
 use crate::text;
 use crate::tick::{self, state_spoilt, Answer, Input, KeptLane, State, NOTHING_DECIDED};
+use crate::tick_records;
 use crate::wanted::{cycle, half_goes_up, Command, Wish};
 use std::fmt::Write;
 
@@ -35,6 +39,8 @@ pub enum Op {
     Poll(u16),
     Decide(Clock, [Command; 2]),
     Write(u16),
+    /// The size of the output, and the bytes of the records.
+    Records(u16, Vec<u8>),
 }
 
 /// Timing i, from 0, set to any value.
@@ -43,6 +49,11 @@ pub fn timing(i: usize, value: u16) -> Op {
 }
 
 // Words.
+
+/// Bytes as numbers, with a byte of 0 more where they are odd.
+fn padded(bytes: &[u8]) -> Vec<u16> {
+    bytes.chunks(2).map(|b| u16::from_be_bytes([b[0], b.get(1).copied().unwrap_or(0)])).collect()
+}
 
 fn op_words(op: &Op) -> Vec<u16> {
     match op {
@@ -57,6 +68,10 @@ fn op_words(op: &Op) -> Vec<u16> {
             [vec![7], row::numbers(&input, 0, 0)].concat()
         }
         Op::Write(size) => vec![8, *size],
+        Op::Records(size, bytes) => {
+            assert!(bytes.len() < 65536);
+            [vec![9, *size, bytes.len() as u16], padded(bytes)].concat()
+        }
     }
 }
 
@@ -97,6 +112,14 @@ impl Words {
         for word in &mut out {
             *word = self.one()?;
         }
+        Some(out)
+    }
+
+    /// So many bytes; behind an odd number of them one more goes by.
+    fn bytes(&mut self, many: u16) -> Option<Vec<u8>> {
+        let words: Option<Vec<u16>> = (0..many.div_ceil(2)).map(|_| self.one()).collect();
+        let mut out: Vec<u8> = words?.into_iter().flat_map(u16::to_be_bytes).collect();
+        out.truncate(many as usize);
         Some(out)
     }
 
@@ -150,6 +173,10 @@ impl Words {
             6 => Some(Op::Poll(self.one()?)),
             7 => self.input(0, 0).map(|input| Op::Decide(input.clock, input.commands)),
             8 => Some(Op::Write(self.one()?)),
+            9 => {
+                let (size, many) = (self.one()?, self.one()?);
+                Some(Op::Records(size, self.bytes(many)?))
+            }
             _ => None,
         }
     }
@@ -211,27 +238,36 @@ impl Run<'_> {
         self.print_state();
     }
 
-    fn ticks(&mut self, count: u16, mut input: Input) {
-        self.tally.count("ticks", count as u64);
-        // at a spoilt site no tick is accepted
+    /// Ticks are to come. At a spoilt site none is accepted.
+    fn begin_ticks(&mut self) {
         if self.site.is_some() && self.site != self.powered {
             self.powered = None;
         }
+    }
+
+    /// A tick and its answer, whose state is the present one from now on.
+    fn take(&mut self, input: &Input, answer: &Answer) {
+        self.tally.count("ticks accepted", (answer.refusal == 0) as u64);
+        self.tally.count("lanes released", (answer.released != 0) as u64);
+        if answer.refusal == 0 {
+            self.watch_calls(input, answer);
+        }
+        self.state = answer.state;
+        let half = self.goes_up(answer.decision.wish);
+        self.tally.count("ticks whose cycle is a half going up", half);
+        self.ticked.note(holidays(&self.site), input.clock, &answer.decision);
+    }
+
+    fn ticks(&mut self, count: u16, mut input: Input) {
+        self.tally.count("ticks", count as u64);
+        self.begin_ticks();
         let mut before = String::new();
         for number in 1..=count {
             let answer = tick::tick(self.site.as_ref(), &self.state, &input);
             if number == 1 {
                 self.tally.refused(answer.refusal);
             }
-            self.tally.count("ticks accepted", (answer.refusal == 0) as u64);
-            self.tally.count("lanes released", (answer.released != 0) as u64);
-            if answer.refusal == 0 {
-                self.watch_calls(&input, &answer);
-            }
-            self.state = answer.state;
-            let half = self.goes_up(answer.decision.wish);
-            self.tally.count("ticks whose cycle is a half going up", half);
-            self.ticked.note(holidays(&self.site), input.clock, &answer.decision);
+            self.take(&input, &answer);
             let line = tick_line(&answer);
             if line != before || answer.released != 0 {
                 writeln!(self.out, "{number} {line}").unwrap();
@@ -239,6 +275,19 @@ impl Run<'_> {
             before = line;
             input.clock.tenth = input.clock.tenth.wrapping_add(1);
         }
+        self.print_state();
+    }
+
+    /// The ticks that the call accepts are noted like those of operation 1.
+    fn records(&mut self, size: u16, records: &[u8]) {
+        let (mut buffer, mut ticks) = (untouched(size), Vec::new());
+        let mut see = |input: &Input, answer: &Answer| ticks.push((*input, *answer));
+        let ran = tick_records::run_seen(self.site.as_ref(), &self.state, records, &mut buffer, &mut see);
+        record_tally::count(self.site.as_ref(), records, buffer.len(), &ran, self.tally);
+        self.begin_ticks();
+        ticks.iter().for_each(|(input, answer)| self.take(input, answer));
+        assert_eq!(self.state.words(), ran.state.words(), "the state so far is another");
+        writeln!(self.out, "records {} {} {}", ran.refusal, ran.accepted, text::hex(&buffer)).unwrap();
         self.print_state();
     }
 
@@ -326,6 +375,7 @@ impl Run<'_> {
             Op::Poll(size) => self.poll(size),
             Op::Decide(clock, commands) => self.decide(clock, commands),
             Op::Write(size) => self.write(size),
+            Op::Records(size, records) => self.records(size, &records),
         }
     }
 }

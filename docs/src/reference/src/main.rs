@@ -1,5 +1,5 @@
-//! Document 01 in plain Rust, with the preemption, the nearest cycle, the plans past midnight, the bus bypass, the one cycle per tick and
-//! the holidays that move of document 02.
+//! Document 01 in plain Rust, with the preemption, the nearest cycle, the plans past midnight, the bus bypass, the one cycle per tick, the
+//! holidays that move and the many ticks in one call of document 02.
 //! `reference NAME` writes test inputs and what they should give:
 //!
 //! - `site-bounds stdin`, `site-bounds stdout`: the files of `crates/site_bounds`.
@@ -10,8 +10,12 @@
 //! - `random timetable SEED FOLDER`: site files for the timetable program, FOLDER/0/site.bin and so on, and what it prints and explains of
 //!   all of them, as FOLDER/stdout and FOLDER/stderr.
 //! - `random replay SEED FOLDER`: the same for the replay program, with ticks, FOLDER/0/ticks and so on.
+//! - `random simulate SEED FOLDER`: the same for the simulate program, with tick records, FOLDER/0/ticks and so on.
 //! - `simulated-day stdin`: the site file of `crates/simulated_day`; `simulated-day`: what that program prints of the site file on
 //!   standard input, and what it explains; `simulated-day samples`: what it prints of the samples alone.
+//! - `day-records`: the ticks of that day at that site, as tick records.
+//! - `simulate FILE`: what the simulate program writes of a site file and the tick records on standard input, on both streams.
+//! - `simulate-records`: the tick records of `crates/simulate`.
 //! - `timetable FILE [NAME]`: what the timetable program prints of a file, and on standard error why it is refused, as a file of that name.
 //! - `replay FILE [NAME]`: what the replay program prints of a site file and the ticks on standard input, and what it explains.
 //! - `replay-ticks`: the ticks of `crates/replay`.
@@ -49,9 +53,15 @@ mod preemption_cases;
 mod random;
 mod random_calls;
 mod random_cases;
+mod random_records;
 mod random_replay;
+mod random_simulate;
 mod rate_sheet;
 mod record;
+mod record_cases;
+mod record_runs;
+mod record_steps;
+mod record_tally;
 mod refusal_cases;
 mod release_check;
 mod replay;
@@ -59,6 +69,7 @@ mod replay_files;
 mod replay_lines;
 mod replay_refusals;
 mod row;
+mod simulate;
 mod simulated_day;
 mod site;
 mod site_run;
@@ -67,6 +78,7 @@ mod text;
 mod tick;
 mod tick_cases;
 mod tick_diagnosis;
+mod tick_records;
 mod timetable;
 mod timetable_files;
 mod timings;
@@ -124,6 +136,12 @@ fn replay(file: &str, name: &str) -> Result<()> {
     say(&said.output, &said.explanation)
 }
 
+fn simulate(file: &str) -> Result<()> {
+    let said = simulate::print(&contents(file), &standard_input()?);
+    std::io::stdout().write_all(&said.output)?;
+    std::io::stderr().write_all(said.explanation.as_bytes())
+}
+
 fn main() -> Result<()> {
     let words: Vec<String> = std::env::args().skip(1).collect();
     let words: Vec<&str> = words.iter().map(String::as_str).collect();
@@ -170,12 +188,30 @@ fn main() -> Result<()> {
             std::fs::write(format!("{folder}/stderr"), stderr)?;
             out.write_all(tally.print().as_bytes())
         }
+        ["random", "simulate", seed, folder] => {
+            let tally = &mut Tally::default();
+            let (mut stdout, mut stderr) = (Vec::new(), String::new());
+            for (i, run) in random_simulate::runs(seed.parse().expect("a seed")).iter().enumerate() {
+                std::fs::create_dir_all(format!("{folder}/{i}"))?;
+                std::fs::write(format!("{folder}/{i}/site.bin"), &run.file)?;
+                std::fs::write(format!("{folder}/{i}/ticks"), &run.ticks)?;
+                let said = random_simulate::answer(run, tally);
+                stdout.extend(said.output);
+                stderr += &said.explanation;
+            }
+            std::fs::write(format!("{folder}/stdout"), stdout)?;
+            std::fs::write(format!("{folder}/stderr"), stderr)?;
+            out.write_all(tally.print().as_bytes())
+        }
         ["simulated-day", "stdin"] => out.write_all(&site::bytes(&simulated_day::site())),
         ["simulated-day"] => {
             let file = standard_input()?;
             say(&simulated_day::print(&file), &diagnosis::of(&file, "standard input"))
         }
         ["simulated-day", "samples"] => out.write_all(simulated_day::print_samples().as_bytes()),
+        ["day-records"] => simulated_day::write_records(out),
+        ["simulate", file] => simulate(file),
+        ["simulate-records"] => out.write_all(&replay_files::simulate_records()),
         ["timetable", file] => timetable(file, "site.bin"),
         ["timetable", file, name] => timetable(file, name),
         ["replay", file] => replay(file, "site.bin"),

@@ -7,6 +7,11 @@ const UNTOUCHED: u8 = 165;
 /// How many bytes the longest of them has.
 pub const ROOM: usize = 4096;
 
+/// The buffer for a call that asks for so many bytes, before it is called.
+pub fn untouched(size: u16) -> Vec<u8> {
+    vec![UNTOUCHED; ROOM.min(size as usize)]
+}
+
 /// Writes these bytes, or answers 11.
 pub fn write(bytes: &[u8], out: &mut [u8]) -> Result<usize, u8> {
     if out.len() < bytes.len() {

@@ -1,11 +1,12 @@
 //! Fresh random cases of a seed, in number: long runs, states that no run need reach, spoilt ones, and files, sites and inputs
-//! with something out of range. Behind each that is refused comes one that is not.
+//! with something out of range. Behind each that is refused comes one that is not. And calls with tick records.
 
 use crate::call_run::{from_power_up, timing, Op};
 use crate::cases;
 use crate::preemption_cases;
 use crate::random::Random;
 use crate::random_calls::{self, next_calls, Calls};
+use crate::random_records;
 use crate::site::{bytes, Site, TIMINGS, UNUSED};
 use crate::tick::{Input, State};
 use crate::tick_cases::{
@@ -24,6 +25,7 @@ const REFUSED: u16 = 16;
 const DAMAGED: u16 = 10;
 const AIMED: u16 = 12;
 const AIMED_BUSES: u16 = 24;
+const RECORDS: u16 = 16;
 const DECISIONS: usize = 5000;
 const FILES: usize = 5000;
 const TIMETABLES: usize = 40;
@@ -110,7 +112,7 @@ pub fn timetable_files(seed: u64) -> Vec<Vec<u8>> {
 
 // States.
 
-fn any_state(r: &mut Random, s: &Setting) -> State {
+pub fn any_state(r: &mut Random, s: &Setting) -> State {
     let cycle = r.number(20, 720);
     strange_state(r, &s.site.timings, cycle)
 }
@@ -159,7 +161,7 @@ fn refused_inputs(r: &mut Random, s: &Setting) -> Vec<Op> {
 
 // Buffers and decisions.
 
-fn any_decision(r: &mut Random, s: &Setting) -> Op {
+pub fn any_decision(r: &mut Random, s: &Setting) -> Op {
     let mut input = sound_input(r, s);
     if r.percent(10) {
         damage_input(r, s, &mut input);
@@ -167,7 +169,7 @@ fn any_decision(r: &mut Random, s: &Setting) -> Op {
     Op::Decide(input.clock, input.commands)
 }
 
-fn any_poll(r: &mut Random, s: &Setting) -> Op {
+pub fn any_poll(r: &mut Random, s: &Setting) -> Op {
     let (n, m) = lanes(&s.site);
     Op::Poll(cases::poll_size(r, n, m))
 }
@@ -205,7 +207,7 @@ fn damage_list(r: &mut Random, section: u16, width: u16, used: u16, all: u16) ->
     }
 }
 
-fn damage_site(r: &mut Random, s: &Setting) -> Op {
+pub fn damage_site(r: &mut Random, s: &Setting) -> Op {
     let Site { entries, holidays, levels, .. } = &s.site;
     match r.from(0, 3) {
         0 => damage_timing(r),
@@ -309,5 +311,6 @@ pub fn call_cases(seed: u64) -> Vec<Vec<u8>> {
             out.push(from_power_up(&bytes(&s.site), &ops));
         }
     }
+    out.extend(random_records::cases(&mut r, RECORDS));
     out
 }

@@ -35,8 +35,8 @@ fn words(input: &Input, n: usize, m: usize) -> Vec<Vec<u8>> {
     words
 }
 
-/// So many ticks, a tenth apart, over midnight too, but for a jump now and then.
-fn inputs(r: &mut Random, s: &Setting, many: usize) -> Vec<Input> {
+/// So many ticks, a tenth apart, over midnight too, but for a jump now and then; of a hundred so many damaged.
+pub fn inputs(r: &mut Random, s: &Setting, many: usize, damaged: u64) -> Vec<Input> {
     let mut input = sound_input(r, s);
     let mut calls = [Calls::trucks(r, s, 1), Calls::buses(r, 3)];
     let mut out = Vec::new();
@@ -50,7 +50,7 @@ fn inputs(r: &mut Random, s: &Setting, many: usize) -> Vec<Input> {
         samples(r, s, 2, &mut input);
         next_calls(r, &mut calls, 1, &mut input);
         let mut sent = input;
-        if r.percent(2) {
+        if r.percent(damaged) {
             damage_input(r, s, &mut sent);
         }
         out.push(sent);
@@ -60,7 +60,7 @@ fn inputs(r: &mut Random, s: &Setting, many: usize) -> Vec<Input> {
 }
 
 /// The same where metering is wanted nearly all the time, with a bus now and then.
-fn metered_inputs(r: &mut Random, s: &Setting, many: usize) -> Vec<Input> {
+pub fn metered_inputs(r: &mut Random, s: &Setting, many: usize) -> Vec<Input> {
     let mut input = sound_input(r, s);
     let mut calls = [Calls::trucks(r, s, 0), Calls::buses(r, 3)];
     let mut out = Vec::new();
@@ -168,7 +168,7 @@ fn text(r: &mut Random, s: &Setting, inputs: &[Input]) -> Vec<u8> {
 
 fn run(r: &mut Random, k: u16, ticks: usize) -> Run {
     let s = any_setting(r, k);
-    let inputs = inputs(r, &s, ticks);
+    let inputs = inputs(r, &s, ticks, 2);
     let file = if r.percent(5) { damaged_file(r) } else { bytes(&s.site) };
     Run { file, ticks: text(r, &s, &inputs) }
 }

@@ -71,7 +71,7 @@ fn number(i: usize, word: &[u8]) -> Result<u32, String> {
 
 /// The tick of a line, or why it is none: clock, demand and passage of each lane, the mainline lanes' samples, preemption and bypass, two
 /// commands.
-fn input(site: &Site, line: &[u8]) -> Result<Input, String> {
+pub fn input(site: &Site, line: &[u8]) -> Result<Input, String> {
     let (n, m) = lanes(site);
     let numbers = words(line).into_iter().enumerate().map(|(i, word)| number(i + 1, word)).collect::<Result<Vec<u32>, String>>()?;
     // the tenth is one number of the line, and two of the row

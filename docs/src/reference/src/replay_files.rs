@@ -5,6 +5,9 @@ use crate::replay;
 use crate::replay_lines;
 use crate::replay_refusals;
 use crate::site::{bytes, Site};
+use crate::tick::{power_up, tick, Input};
+use crate::tick_records::record;
+use crate::wanted::lanes;
 use std::io::Result;
 
 /// The numbers of one tick's line.
@@ -70,6 +73,36 @@ fn plain_site() -> Site {
     let mut site = site_with_rows();
     (site.timings[15], site.timings[16]) = (2, 3);
     site
+}
+
+/// The ticks of the run that are accepted at that site.
+fn accepted_ticks(site: &Site) -> Vec<Input> {
+    let (_, mut state) = power_up(Some(site));
+    let lines = ticks();
+    let inputs = lines.lines().filter_map(|line| replay::input(site, line.as_bytes()).ok());
+    let mut out = Vec::new();
+    for input in inputs {
+        let answer = tick(Some(site), &state, &input);
+        state = answer.state;
+        if answer.refusal == 0 {
+            out.push(input);
+        }
+    }
+    out
+}
+
+/// The run of the simulate program's own test, in records: these ticks, then one with a month of 13, and one that is good and not taken.
+pub fn simulate_records() -> Vec<u8> {
+    let site = plain_site();
+    let (n, m) = lanes(&site);
+    let mut inputs = accepted_ticks(&site);
+    let mut good = *inputs.last().expect("a tick");
+    good.clock.tenth += 1;
+    let mut bad = good;
+    bad.clock.date.month = 13;
+    good.clock.tenth += 1;
+    inputs.extend([bad, good]);
+    inputs.iter().flat_map(|input| record(input, n, m)).collect()
 }
 
 /// A site of four metered and six mainline lanes, in fractional offset, with priority lane 3.

@@ -7,6 +7,9 @@ use crate::periods::Sample;
 use crate::site::{self, Site, UNUSED};
 use crate::text;
 use crate::tick::{poll_record, power_up, tick, Input};
+use crate::tick_records::record;
+use crate::wanted::lanes;
+use std::io::{self, BufWriter, Write};
 
 const TICKS: u32 = 864_000;
 const SEED: u32 = 1;
@@ -70,6 +73,24 @@ impl Samples {
     }
 }
 
+/// The ticks of the day, with no call and no command.
+fn inputs() -> impl Iterator<Item = Input> {
+    let mut samples = Samples(SEED);
+    (0..TICKS).map(move |tenth| {
+        let (demand, passage, mainline) = samples.draw();
+        let clock = Clock { date: Date { year: 2025, month: 1, day: 6 }, tenth };
+        Input { demand, passage, mainline, ..Input::at(clock) }
+    })
+}
+
+/// Writes the tick records of the day.
+pub fn write_records(out: impl Write) -> io::Result<()> {
+    let (n, m) = lanes(&site());
+    let mut out = BufWriter::with_capacity(1 << 20, out);
+    inputs().try_for_each(|input| out.write_all(&record(&input, n, m)))?;
+    out.flush()
+}
+
 // The checksum.
 
 fn summed(sum: u32, x: u32) -> u32 {
@@ -104,12 +125,8 @@ pub fn print(file: &[u8]) -> String {
 
 fn print_day(site: &Site) -> String {
     let (_, mut state) = power_up(Some(site));
-    let mut samples = Samples(SEED);
     let (mut accepted, mut released, mut polled, mut sum) = (0, 0, 0, 0);
-    for tenth in 0..TICKS {
-        let (demand, passage, mainline) = samples.draw();
-        let clock = Clock { date: Date { year: 2025, month: 1, day: 6 }, tenth };
-        let input = Input { demand, passage, mainline, ..Input::at(clock) };
+    for input in inputs() {
         let answer = tick(Some(site), &state, &input);
         state = answer.state;
         accepted += (answer.refusal == 0) as u32;

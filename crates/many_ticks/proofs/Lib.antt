@@ -1,0 +1,8 @@
+pub mod ShownLaws
+pub mod StepLaws
+pub mod PartLaws
+pub mod RunLaws
+pub mod SinglyLaws
+pub mod BlockLaws
+pub mod KnownLaws
+pub mod RoomLaws

@@ -1,0 +1,4 @@
+pub mod Many
+pub mod Singly
+pub mod Blocks
+pub mod Known

@@ -1,0 +1,21 @@
+-- Each number is the definition's.
+use Rattle.tick_row.specs.Row.{callsOf}
+use borrow.Author.Needs.{needs}
+use Rattle.tick_record.proofs.calls_of.Statement.{statement}
+use Rattle.tick_record.proofs.calls_of.Tie as tie
+
+word-at-requires : tie.Need-word-at-requires
+word-at-requires c κs = search needs
+
+add-word-at : tie.Need-add-word-at
+add-word-at c = search needs
+
+word-at-requires-2 : tie.Need-word-at-requires-2
+word-at-requires-2 c κs = search needs
+
+returns : tie.Need-returns
+unfolding callsOf
+returns c = simp (c .word-at2 .ensures, c .before .word-at .ensures)
+
+pub calls-of-spec : {M : Type 1} → statement M
+calls-of-spec = tie.close (tie.spec word-at-requires add-word-at word-at-requires-2 returns)
