@@ -1,7 +1,9 @@
 # The periods of a replay as a table: `awk -f periods.awk TICKS REPLAYED`. A row for each `poll` line: date and time of the tick that completed
 # the period, and the period's serial; of each metered lane the passages and the greens begun (pass1, green1, ..); of each mainline lane the
 # vehicles, the occupied milliseconds and whether it was good (veh1, ms1, good1, ..); then over the good lanes how many they are, their flow
-# in vehicles an hour per lane and their occupancy in percent, both rounded down, - where no lane is good.
+# in vehicles an hour per lane, their occupancy in percent and their speed in km/h, all rounded down, - where no lane is good, and for the
+# speed where no vehicle was timed on one. The speed comes from the travel times of the ticks that were accepted; the `speeds` lines, which
+# have each lane's own, are passed over.
 function hex(digits,    k, value) {
     for (k = 1; k <= length(digits); k++) value = 16 * value + index("0123456789abcdef", substr(digits, k, 1)) - 1
     return value
@@ -23,7 +25,26 @@ function put(name, cell) {
     if (length(cell) > width[column]) width[column] = length(cell)
 }
 
-function period(line, poll,    n, m, lane, vehicles, occupied, good, lanes, all_vehicles, all_occupied, tenths) {
+# A tick that was accepted, of so many metered lanes: the vehicles that it timed on lanes that worked, and their milliseconds.
+function time_vehicles(tick, n,    words, lanes, lane, place) {
+    lanes = (split(tick, words, " ") - 12 - 2 * n) / 4
+    for (lane = 1; lane <= lanes; lane++) {
+        place = 2 * n + 4 * lane
+        if (words[place + 1] == 1 && words[place + 3] == 1 && words[place + 4] > 0) {
+            timed[lane]++
+            millis[lane] += words[place + 4]
+        }
+    }
+}
+
+# In tenths of a km/h, rounded down, in whole numbers alone.
+function tenths_of(vehicles, milliseconds,    tenths) {
+    tenths = 219600 * vehicles
+    tenths = (tenths - tenths % milliseconds) / milliseconds
+    return int(tenths / 10) "." tenths % 10
+}
+
+function period(line, poll,    n, m, lane, vehicles, occupied, good, lanes, all_vehicles, all_occupied, all_timed, all_millis, tenths) {
     record = poll
     place = 1
     rows++
@@ -44,11 +65,16 @@ function period(line, poll,    n, m, lane, vehicles, occupied, good, lanes, all_
         lanes += good
         all_vehicles += good * vehicles
         all_occupied += good * occupied
+        all_timed += good * timed[lane]
+        all_millis += good * millis[lane]
     }
+    split("", timed)
+    split("", millis)
     tenths = lanes ? int(all_occupied / (30 * lanes)) : 0
     put("good", lanes + 0)
     put("flow", lanes ? int(all_vehicles * 120 / lanes) : "-")
     put("occupancy", lanes ? int(tenths / 10) "." tenths % 10 : "-")
+    put("speed", all_timed ? tenths_of(all_timed, all_millis) : "-")
 }
 
 BEGIN {
@@ -61,12 +87,16 @@ BEGIN {
 
 FILENAME == ARGV[1] {
     date[FNR] = sprintf("%04d-%02d-%02d", $1, $2, $3)
+    ticks[FNR] = $0
     time[FNR] = sprintf("%02d:%02d:%04.1f", $4 / 36000, $4 / 600 % 60, $4 % 600 / 10)
     next
 }
 
 # A tick's line has the tick's number, which is that of its line among the ticks.
-$1 ~ /^[0-9]+$/ { line = $1 }
+$1 ~ /^[0-9]+$/ {
+    line = $1
+    if ($2 == 0) time_vehicles(ticks[line], length($5))
+}
 $1 == "poll" { period(line, $2) }
 $1 == "refused" || $1 == "line" { end = $0 }
 

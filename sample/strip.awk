@@ -56,7 +56,7 @@ FNR == NR {
 
 FNR == 1 { next }
 
-$1 == "poll" { next }
+$1 == "poll" || $1 == "speeds" { next }
 
 $1 == "refused" || $1 == "line" { print; exit }
 

@@ -32,7 +32,7 @@ function minutes(first, count, gap,    k, lane, line, passage) {
         for (lane = 0; lane < 3; lane++) {
             if (until[lane] <= 0) until[lane] = gap + (chance(2) ? 3 : -3)
             until[lane]--
-            line = line " 1 " (until[lane] < 2 ? 95 : 0) " " (until[lane] == 0 ? "1 " 88 + 4 * lane : "0 0")
+            line = line " 1 " (until[lane] < 2 ? 95 : 0) " " (until[lane] == 0 ? "1 " 250 - 10 * lane : "0 0")
         }
         print line " " fire_truck(first + k) " " bus_calls(first + k) " 0 0 0 0 0 0"
     }

@@ -1,7 +1,9 @@
 // The numbers of an operation; its kind is number 0. Of ticks: their count is 1, the first one's row
 // begins at 2. Of a decision: its row begins at 1. Of a state: the interval is 1, the lanes begin
 // at 3, the bypass at 21, the open period at 24, the serial is 69 and the completed period begins
-// at 71.
+// at 71. From 115 on stand thirty doubles, each as the four numbers of its bits, the highest first:
+// each mainline lane's latest and slowest speed of the open period, and at 163 those of the completed
+// one; at 211 each lane's last measured speed of the periods before that one.
 ghost use mathlib.Core.Path.{_≡_};
 ghost use Prim.Native.Nat.{_≤_};
 ghost use lib.ListN.{length};
@@ -9,6 +11,8 @@ ghost use Rattle.tick_row.specs.Row.{longestRow};
 use bypass::Bypass;
 use calendar::Clock;
 use group::Group;
+use lane_speeds::KeptSpeeds;
+use lane_speeds::Speeds;
 use lanes::Lanes;
 use period::Counts;
 use period::Periods;
@@ -21,7 +25,7 @@ fn long(high: u16, low: u16) -> u32 {
 
 // Numbers i and i + 1 as one.
 fn long_at(op: &[u8], i: usize) -> u32
-    requires { ⌜ i ≤ 200 ⌝ }
+    requires { ⌜ i ≤ 240 ⌝ }
 {
     long(numbers::word(op, i), numbers::word(op, i + 1))
 }
@@ -152,7 +156,53 @@ fn counts(op: &[u8], at: usize) -> Counts
         vehicles: six(op, at + 14),
         occupied: six(op, at + 20),
         timed: six(op, at + 26),
-        speeds: six_long(op, at + 32),
+        millis: six_long(op, at + 32),
+    }
+}
+
+// Numbers i to i + 3 as a double.
+fn double_at(op: &[u8], i: usize) -> f64
+    requires { ⌜ i ≤ 232 ⌝ }
+{
+    let high = long_at(op, i) as u64;
+    let low = long_at(op, i + 2) as u64;
+    speed::of_bits(high * 4294967296 + low)
+}
+
+fn speeds_at(op: &[u8], i: usize) -> Speeds
+    requires { ⌜ i ≤ 220 ⌝ }
+{
+    Speeds {
+        latest: double_at(op, i),
+        slowest: double_at(op, i + 4),
+    }
+}
+
+fn six_speeds(op: &[u8], at: usize) -> [Speeds; 6]
+    requires { ⌜ at ≤ 170 ⌝ }
+{
+    [
+        speeds_at(op, at),
+        speeds_at(op, at + 8),
+        speeds_at(op, at + 16),
+        speeds_at(op, at + 24),
+        speeds_at(op, at + 32),
+        speeds_at(op, at + 40),
+    ]
+}
+
+fn kept_speeds(op: &[u8]) -> KeptSpeeds {
+    KeptSpeeds {
+        current: six_speeds(op, 115),
+        last: six_speeds(op, 163),
+        earlier: [
+            double_at(op, 211),
+            double_at(op, 215),
+            double_at(op, 219),
+            double_at(op, 223),
+            double_at(op, 227),
+            double_at(op, 231),
+        ],
     }
 }
 
@@ -162,6 +212,7 @@ fn periods(op: &[u8]) -> Periods {
         current: counts(op, 25),
         serial: long_at(op, 69),
         last: counts(op, 71),
+        speeds: kept_speeds(op),
     }
 }
 

@@ -1,11 +1,15 @@
 // The printed lines. Each word of a line stands behind a blank but the first.
 use bypass::Bypass;
 use group::Group;
+use lane_speeds::KeptSpeeds;
+use lane_speeds::Reading;
+use lane_speeds::Speeds;
 use lanes::Lanes;
 use many_ticks::Ran;
 use output::Written;
 use period::Counts;
 use period::Periods;
+use readings::Readings;
 use state::State;
 use tick::Ticked;
 use wanted::Decision;
@@ -90,8 +94,57 @@ fn put_counts(out: &mut [u8], at: usize, c: Counts) -> usize {
     let o = put_six(out, v, occupied);
     let timed = c.timed;
     let t = put_six(out, o, timed);
-    let speeds = c.speeds;
-    put_six_long(out, t, speeds)
+    let millis = c.millis;
+    put_six_long(out, t, millis)
+}
+
+// A double as the 16 hexadecimal digits of its bits.
+fn put_double(out: &mut [u8], at: usize, x: f64) -> usize {
+    let bits = speed::bits_of(x);
+    let bytes = [
+        (bits / 72057594037927936) as u8,
+        (bits / 281474976710656 % 256) as u8,
+        (bits / 1099511627776 % 256) as u8,
+        (bits / 4294967296 % 256) as u8,
+        (bits / 16777216 % 256) as u8,
+        (bits / 65536 % 256) as u8,
+        (bits / 256 % 256) as u8,
+        (bits % 256) as u8,
+    ];
+    let p = text::put_byte(out, at, b' ');
+    tick_text::put_hex(out, p, &bytes)
+}
+
+fn put_speeds(out: &mut [u8], at: usize, s: Speeds) -> usize {
+    let p = put_double(out, at, s.latest);
+    put_double(out, p, s.slowest)
+}
+
+fn put_six_speeds(out: &mut [u8], at: usize, v: [Speeds; 6]) -> usize {
+    let a = put_speeds(out, at, v[0]);
+    let b = put_speeds(out, a, v[1]);
+    let c = put_speeds(out, b, v[2]);
+    let d = put_speeds(out, c, v[3]);
+    let e = put_speeds(out, d, v[4]);
+    put_speeds(out, e, v[5])
+}
+
+fn put_six_doubles(out: &mut [u8], at: usize, v: [f64; 6]) -> usize {
+    let a = put_double(out, at, v[0]);
+    let b = put_double(out, a, v[1]);
+    let c = put_double(out, b, v[2]);
+    let d = put_double(out, c, v[3]);
+    let e = put_double(out, d, v[4]);
+    put_double(out, e, v[5])
+}
+
+fn put_kept_speeds(out: &mut [u8], at: usize, k: KeptSpeeds) -> usize {
+    let current = k.current;
+    let a = put_six_speeds(out, at, current);
+    let last = k.last;
+    let b = put_six_speeds(out, a, last);
+    let earlier = k.earlier;
+    put_six_doubles(out, b, earlier)
 }
 
 fn put_periods(out: &mut [u8], at: usize, p: Periods) -> usize {
@@ -100,7 +153,9 @@ fn put_periods(out: &mut [u8], at: usize, p: Periods) -> usize {
     let b = put_counts(out, a, current);
     let c = put_long(out, b, p.serial);
     let last = p.last;
-    put_counts(out, c, last)
+    let d = put_counts(out, c, last);
+    let speeds = p.speeds;
+    put_kept_speeds(out, d, speeds)
 }
 
 fn put_state(out: &mut [u8], s: State) -> usize {
@@ -220,5 +275,43 @@ pub fn written(w: Written, kept: bool) {
     let p = text::put_bytes(&mut out, 0, b"write");
     let q = test_output::put_written(&mut out, p, w, kept);
     let end = text::put_byte(&mut out, q, b'\n');
+    test_output::print(&out, end);
+}
+
+// 0 absent, 1 measured, 2 carried over.
+fn case_of(reading: Reading) -> u16 {
+    match reading {
+        Reading::Absent => 0,
+        Reading::Measured(_) => 1,
+        Reading::Carried(_) => 2,
+    }
+}
+
+// Lane j's case, its speed, and the latest and the slowest speed.
+fn put_reading(out: &mut [u8], at: usize, r: Readings, j: u16) -> usize {
+    let l = readings::lane_in(r, j);
+    let reading = l.reading;
+    let p = put_word(out, at, case_of(reading));
+    let q = put_double(out, p, lane_speeds::speed_in(reading));
+    let speeds = l.speeds;
+    put_speeds(out, q, speeds)
+}
+
+fn put_six_readings(out: &mut [u8], at: usize, r: Readings) -> usize {
+    let a = put_reading(out, at, r, 0);
+    let b = put_reading(out, a, r, 1);
+    let c = put_reading(out, b, r, 2);
+    let d = put_reading(out, c, r, 3);
+    let e = put_reading(out, d, r, 4);
+    put_reading(out, e, r, 5)
+}
+
+// The refusal, and all six lanes.
+pub fn readings(r: Readings) {
+    let mut out = io::buffer();
+    let p = text::put_bytes(&mut out, 0, b"readings");
+    let q = phrases::put_blank_and_decimal(&mut out, p, r.refusal as u64);
+    let t = put_six_readings(&mut out, q, r);
+    let end = text::put_byte(&mut out, t, b'\n');
     test_output::print(&out, end);
 }

@@ -36,6 +36,8 @@ const WRITE: u16 = 8;
 
 const RECORDS: u16 = 9;
 
+const READINGS: u16 = 10;
+
 // The bytes of the records stand behind three numbers.
 const RECORDS_FROM: usize = 6;
 
@@ -170,6 +172,13 @@ fn records(mut run: Run, op: &[u8]) -> Run {
     run
 }
 
+fn read_now(run: Run) -> Run {
+    let site = run.site;
+    let state = run.state;
+    print::readings(readings::read(site, state));
+    run
+}
+
 fn run_op(run: Run, op: &[u8]) -> Run {
     let kind = numbers::word(op, 0);
     match kind {
@@ -182,6 +191,7 @@ fn run_op(run: Run, op: &[u8]) -> Run {
         DECIDE => decide_now(run, op),
         WRITE => write_now(run, op),
         RECORDS => records(run, op),
+        READINGS => read_now(run),
         _ => run,
     }
 }
@@ -199,7 +209,7 @@ fn op_numbers(kind: u16, bytes: u16) -> usize
 {
     match kind {
         TICKS => 47,
-        STATE => 115,
+        STATE => 235,
         DAMAGE => 4,
         REPAIR => 1,
         POWER_UP => 1,
@@ -207,6 +217,7 @@ fn op_numbers(kind: u16, bytes: u16) -> usize
         DECIDE => 14,
         WRITE => 2,
         RECORDS => record_numbers(bytes),
+        READINGS => 1,
         _ => 0,
     }
 }

@@ -1,7 +1,8 @@
 // What is decided, asked for: by whoever wants to know, at a state as it stands.
 ghost use mathlib.Core.Path.{_≡_};
 ghost use Rattle.calendar.specs.Named.{Typed};
-ghost use Rattle.wanted.specs.Decision.{EntryInForce};
+ghost use Rattle.wanted.specs.Decision.{EntryInForce, commandInForce};
+ghost use Rattle.wanted.specs.Levelled.{Levelled};
 ghost use Rattle.decide.specs.Decide.{firstRefusal, refusalOf, decidedOf};
 use calendar::Clock;
 use inputs::Command;
@@ -51,6 +52,7 @@ pub fn decide(site: Site, state: State, clock: Clock, manual: Command, centre: C
     ensures is { λ r. ⌜ r ≡ decidedOf site state clock manual centre ⌝ }
     ensures day { λ r. ⌜ (r .refusal ≡ 0 → Typed (clock .date) (site .dates) (site .holidays) (r .decision .day)) ⌝ }
     ensures entry { λ r. ⌜ (r .refusal ≡ 0 → EntryInForce site clock (r .decision .entry)) ⌝ }
+    ensures levelled { λ r. ⌜ (r .refusal ≡ 0 → Levelled site (commandInForce site clock manual centre) (state .periods) (r .decision .level)) ⌝ }
 {
     let refusal = refusal_of(site, state, clock, manual, centre);
     if refusal != 0 {

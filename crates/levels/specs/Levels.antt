@@ -6,6 +6,8 @@ use mathlib.Core.Bool.{Bool, true, false, cond, not, _&&_, _||_}
 use mathlib.Core.List.{List}
 use lib.Dec.{leb, eqb}
 use lib.ListN.{getD}
+use lib.Ieee.{Float}
+use Rattle.speed.specs.Speed.{atMost}
 use Rattle.ranges.specs.declared.Section.the-variants.{Levels}
 use Rattle.ranges.specs.Ranges.{unused}
 use Rattle.ranges.specs.Sections.{widthOf}
@@ -28,9 +30,9 @@ levelOf rows i =
 unfoldable pub reachesOf : ℕ → ℕ → Bool
 reachesOf threshold measure = not (eqb threshold unused) && leb threshold measure
 
--- "A known mean speed at or below."
-unfoldable pub isSlow : ℕ → Bool → ℕ → Bool
-isSlow threshold known speed = not (eqb threshold unused) && (known && leb speed threshold)
+-- "A known mean speed at or below", "no longer rounded down" (document 02, A8).
+unfoldable pub isSlow : ℕ → Bool → Float → Bool
+isSlow threshold known speed = not (eqb threshold unused) && (known && atMost speed threshold)
 
 unfoldable pub isMet : Level → Measures → Bool
 isMet l q = reachesOf (l .flow) (q .flow) || (reachesOf (l .occupancy) (q .occupancy) || isSlow (l .speed) (q .known) (q .speed))
@@ -45,9 +47,9 @@ abbrev pub decidingOf : List ℕ → ℕ → ℕ → Measures → ℕ
 decidingOf rows zero table q = 0
 decidingOf rows (suc n) table q = cond (decides (levelOf rows n) table q) (n + 1) (decidingOf rows n table q)
 
--- The same in the paper's own words, which `deciding` promises too: of the first count levels, the one at this place from 1 is of the table
--- and met, and none listed after it is; at 0, none is.
-pub record ListedLast (rows : List ℕ) (count table : ℕ) (q : Measures) (place : ℕ) : Type 0 where
-  pub none : place ≡ 0 → (j : ℕ) → j < count → decides (levelOf rows j) table q ≡ false
-  pub one-of-them : (k : ℕ) → place ≡ k + 1 → (k < count) × (decides (levelOf rows k) table q ≡ true)
-  pub listed-last : (k j : ℕ) → place ≡ k + 1 → k < j → j < count → decides (levelOf rows j) table q ≡ false
+-- The same in the paper's own words, which `deciding` promises too: of the first count levels, the one at this place from 1 is one of those
+-- asked for, and none listed after it is; at 0, none is.
+pub record ListedLast (asked : ℕ → Bool) (count place : ℕ) : Type 0 where
+  pub none : place ≡ 0 → (j : ℕ) → j < count → asked j ≡ false
+  pub one-of-them : (k : ℕ) → place ≡ k + 1 → (k < count) × (asked k ≡ true)
+  pub listed-last : (k j : ℕ) → place ≡ k + 1 → k < j → j < count → asked j ≡ false

@@ -1,7 +1,10 @@
 -- Document 01, 'What is wanted': what a period's counts measure "over good lanes".
 use Prim.Native.Nat.{ℕ, zero, suc, _+_, _*_, _/_}
-use mathlib.Core.Bool.{cond}
+use mathlib.Core.Path.{_≡_}
+use mathlib.Core.Bool.{true, cond}
 use lib.Dec.{ltb, eqb}
+use lib.Ieee.{Float}
+use Rattle.speed.specs.Speed.{speedOf, noSpeed}
 use Rattle.period.specs.declared.Counts.{Counts}
 use Rattle.period.specs.declared.LaneCounts.{LaneCounts}
 use Rattle.period.specs.Counts.{laneOf, goodOf}
@@ -22,19 +25,24 @@ totalsOf c m = record {
   vehicles = overGood c (λ (l : LaneCounts). l .vehicles) m;
   occupied = overGood c (λ (l : LaneCounts). l .occupied) m;
   timed = overGood c (λ (l : LaneCounts). l .timed) m;
-  speeds = overGood c (λ (l : LaneCounts). l .speeds) m;
+  millis = overGood c (λ (l : LaneCounts). l .millis) m;
 }
 
--- "Rounded down: flow = vehicles × 120 ÷ lanes; occupancy = occupied ms ÷ (30 × lanes); mean speed = sum of speeds ÷ vehicles that had
--- one." Without such a vehicle the mean speed is not known, and 0.
+-- "Rounded down: flow = vehicles × 120 ÷ lanes; occupancy = occupied ms ÷ (30 × lanes)." Document 02, A8: "Levels use the speed over all
+-- good lanes, no longer rounded down; a carried-over speed never enters it." Without a timed vehicle it is not known, and 0.
 unfoldable pub measuresOf : Totals → Measures
 measuresOf t = record {
   flow = t .vehicles * 120 / t .lanes;
   occupancy = t .occupied / (30 * t .lanes);
   known = ltb 0 (t .timed);
-  speed = cond (ltb 0 (t .timed)) (t .speeds / t .timed) 0;
+  speed = cond (ltb 0 (t .timed)) (speedOf (t .timed) (t .millis)) noSpeed;
 }
 
 -- What a period's counts measured on m mainline lanes, where there is a good lane.
 unfoldable pub measuredOf : Counts → ℕ → Measured
 measuredOf c m = cond (eqb (totalsOf c m .lanes) 0) NoGoodLane (Over (measuresOf (totalsOf c m)))
+
+-- Where a vehicle was timed on a good lane, something holds of the speed, the vehicles timed and their milliseconds.
+abbrev pub OfSpeed : (Float → ℕ → ℕ → Type 0) → Totals → Measured → Type 0
+OfSpeed holds t NoGoodLane = Unit {0}
+OfSpeed holds t (Over q) = q .known ≡ true → holds (q .speed) (t .timed) (t .millis)

@@ -5,6 +5,7 @@ ghost use mathlib.Core.Path.{_≡_};
 ghost use Rattle.levels.specs.Levels.{levelOf, reachesOf, isSlow, isMet, decides, decidingOf, ListedLast};
 pub use measure::Measured;
 pub use measure::Measures;
+pub use measure::Totals;
 pub use measure::measured_on;
 
 // One level of a level table.
@@ -45,7 +46,7 @@ fn reaches(threshold: u16, measure: u64) -> bool
 }
 
 // Whether a threshold is in use and a known speed is at or below it.
-fn is_slow(threshold: u16, known: bool, speed: u64) -> bool
+fn is_slow(threshold: u16, known: bool, speed: f64) -> bool
     ensures { λ r. ⌜ r ≡ isSlow threshold known speed ⌝ }
 {
     if threshold == ranges::UNUSED {
@@ -54,7 +55,7 @@ fn is_slow(threshold: u16, known: bool, speed: u64) -> bool
     if !known {
         return false;
     }
-    speed <= threshold as u64
+    speed::at_most(speed, threshold)
 }
 
 // Whether one of a level's thresholds in use is reached.
@@ -84,7 +85,7 @@ fn decides_for(l: Level, table: u16, q: Measures) -> bool
 // none.
 pub fn deciding(rows: &[u16], count: u16, table: u16, q: Measures) -> u16
     ensures is { λ r. ⌜ r ≡ decidingOf (now (rows .entry)) count table q ⌝ }
-    ensures last { λ r. ⌜ ListedLast (now (rows .entry)) count table q r ⌝ }
+    ensures last { λ r. ⌜ ListedLast (λ j. decides (levelOf (now (rows .entry)) j) table q) count r ⌝ }
 {
     let mut place = count;
     while 0 < place {

@@ -1,7 +1,10 @@
 // What the last completed period measured over its good lanes.
 ghost use mathlib.Core.Path.{_≡_};
-ghost use Prim.Native.Nat.{_*_, _/_, _≤_, _<_};
-ghost use Rattle.levels.specs.Measures.{totalsOf, measuredOf};
+ghost use mathlib.Core.Bool.{false};
+ghost use Prim.Native.Nat.{ℕ, _*_, _/_, _≤_, _<_};
+ghost use Rattle.period.specs.Range.{countsSpoilt};
+ghost use Rattle.speed.specs.Speed.{SpeedNear, TestsExactly};
+ghost use Rattle.levels.specs.Measures.{totalsOf, measuredOf, OfSpeed};
 use period::Counts;
 
 // A period is 30 s: so many make an hour, and so many milliseconds are a tenth of a percent of one.
@@ -10,14 +13,14 @@ const PERIODS_IN_AN_HOUR: u64 = 120;
 const TENTH_OF_A_PERCENT: u64 = 30;
 
 // Sums over the good lanes.
-struct Totals {
-    lanes: u16,
-    vehicles: u64,
+pub struct Totals {
+    pub lanes: u16,
+    pub vehicles: u64,
     // milliseconds
-    occupied: u64,
-    // vehicles that had a speed, and the sum of their speeds
-    timed: u64,
-    speeds: u64,
+    pub occupied: u64,
+    // vehicles timed, and their milliseconds in all
+    pub timed: u64,
+    pub millis: u64,
 }
 
 pub struct Measures {
@@ -25,9 +28,9 @@ pub struct Measures {
     pub flow: u64,
     // tenths of a percent
     pub occupancy: u64,
-    // whether a vehicle had a speed, and the mean speed in km/h
+    // whether a vehicle was timed, and the speed in km/h
     pub known: bool,
-    pub speed: u64,
+    pub speed: f64,
 }
 
 // What there is to measure by.
@@ -39,13 +42,13 @@ pub enum Measured {
 // The totals over the good ones of m mainline lanes.
 fn lane_totals(c: Counts, m: u16) -> Totals
     ensures is { λ r. ⌜ r ≡ totalsOf c m ⌝ }
-    ensures small { λ r. ⌜ (r .lanes ≤ m) × (r .vehicles ≤ 65535 * m) ⌝ }
+    ensures small { λ r. ⌜ (r .lanes ≤ m) × (r .vehicles ≤ 65535 * m) × (r .timed ≤ 65535 * m) × (r .millis ≤ 4294967295 * m) ⌝ }
 {
     let mut lanes: u16 = 0;
     let mut vehicles: u64 = 0;
     let mut occupied: u64 = 0;
     let mut timed: u64 = 0;
-    let mut speeds: u64 = 0;
+    let mut millis: u64 = 0;
     let mut j: u16 = 0;
     while j < m {
         let lane = period::lane_counts(c, j);
@@ -54,7 +57,7 @@ fn lane_totals(c: Counts, m: u16) -> Totals
             vehicles += lane.vehicles as u64;
             occupied += lane.occupied as u64;
             timed += lane.timed as u64;
-            speeds += lane.speeds as u64;
+            millis += lane.millis as u64;
         }
         j += 1;
     }
@@ -63,7 +66,7 @@ fn lane_totals(c: Counts, m: u16) -> Totals
         vehicles,
         occupied,
         timed,
-        speeds,
+        millis,
     }
 }
 
@@ -75,9 +78,12 @@ fn flow_of(vehicles: u64, lanes: u16) -> u64
     vehicles * PERIODS_IN_AN_HOUR / (lanes as u64)
 }
 
-// What a period's counts measured on m mainline lanes, if one of them was good.
+// What a period's counts measured on m mainline lanes, if one of them was good. Where they are in range, the speed is off by at most its
+// exact value ÷ 2^52, and testing it against a whole threshold is testing whole numbers.
 pub fn measured_on(c: Counts, m: u16) -> Measured
-    ensures { λ r. ⌜ r ≡ measuredOf c m ⌝ }
+    ensures is { λ r. ⌜ r ≡ measuredOf c m ⌝ }
+    ensures near { λ r. ⌜ ((n ticks : ℕ) → ticks ≤ 300 → m ≤ 6 → countsSpoilt c n m ticks ≡ false → OfSpeed SpeedNear (totalsOf c m) r) ⌝ }
+    ensures exact { λ r. ⌜ ((n ticks : ℕ) → ticks ≤ 300 → m ≤ 6 → countsSpoilt c n m ticks ≡ false → OfSpeed TestsExactly (totalsOf c m) r) ⌝ }
 {
     let t = lane_totals(c, m);
     let lanes = t.lanes;
@@ -91,13 +97,13 @@ pub fn measured_on(c: Counts, m: u16) -> Measured
             flow,
             occupancy,
             known: false,
-            speed: 0,
+            speed: 0.0,
         });
     }
     Measured::Over(Measures {
         flow,
         occupancy,
         known: true,
-        speed: t.speeds / t.timed,
+        speed: speed::quotient(t.timed, t.millis),
     })
 }

@@ -79,8 +79,8 @@ fn record_size(n: u16, m: u16) -> usize
     8 + (n as usize) * 4 + (m as usize) * 6
 }
 
-// Which check refuses the poll, or 0.
-fn refusal(site: Site, state: State) -> u8
+// Which check refuses to speak of the last completed period, or 0: 14, 13, 12.
+pub fn refusal(site: Site, state: State) -> u8
     ensures { λ r. ⌜ r ≡ refusalOf site state ⌝ }
 {
     if site::spoilt(site) {

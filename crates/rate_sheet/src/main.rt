@@ -77,7 +77,7 @@ fn asking(rate: u16) -> Input
             working: [1u16; 6],
             occupied: [0u16; 6],
             vehicles: [0u16; 6],
-            speed: [0u16; 6],
+            time: [0u16; 6],
         },
         calls: Calls {
             preemption: 0,

@@ -1,5 +1,5 @@
 -- No line adds more to the output than the longest answer: no number of the machine has more than 20 digits, no poll record more than 60
--- bytes.
+-- bytes, no line of readings more than 163.
 use Prim.Native.Nat.{ℕ, _+_, _*_, _^_, _≤_, _<_}
 use mathlib.Core.Path.{_≡_, refl}
 use mathlib.Core.Bool.{Bool, true, false}
@@ -14,7 +14,9 @@ use Rattle.text.specs.Ascii.{ascii}
 use Rattle.text.specs.Put.{Put}
 use Rattle.text.proofs.DecimalLaws.{decimal-word}
 use Rattle.site.specs.declared.Site.{Site}
-use Rattle.site.specs.Named.{meteredLanes}
+use Rattle.site.specs.Named.{meteredLanes, mainlineLanes}
+use Rattle.site.proofs.TimingLaws.{timings-good}
+use Rattle.loops.proofs.Cases.{by-test}
 use Rattle.state.specs.declared.State.{State}
 use Rattle.tick.specs.declared.Ticked.{Ticked}
 use Rattle.tick_line.specs.Scan.{mostOf}
@@ -22,9 +24,13 @@ use Rattle.tick_line.specs.declared.reading.Verdict.{Verdict}
 use Rattle.tick_line.specs.declared.reading.Verdict.the-variants.{Tick, Count, NoNumber, Above, Empty}
 use Rattle.tick_line.proofs.reading.Verdict as a-verdict
 use Rattle.poll.specs.Poll.{pollOf, refusalOf}
+use Rattle.poll.proofs.PollLaws.{site-sound}
+use Rattle.readings.specs.Readings.{readOf, refusedReadings}
+use Rattle.readings_text.specs.Line.{longestSpeeds}
+use Rattle.readings_text.proofs.LengthLaws.{speeds-most}
 use Rattle.tick_text.specs.Lines.{tickLine, longestTick, hexText, pollLine}
 use Rattle.replay_lines.specs.NoTick.{wordText, noNumberText, aboveText, emptyText, countText, reasonText, noTickLine}
-use Rattle.replay_lines.specs.Answer.{completes, polledText, answerText}
+use Rattle.replay_lines.specs.Answer.{completes, polledText, speedsText, answerText}
 use Rattle.replay_lines.specs.Replay.{longestAnswer}
 use Rattle.replay_lines.proofs.PollLaws.{poll-most}
 
@@ -72,10 +78,22 @@ unfolding polledText
 polled-case x s true e = rw e (omega (arith, poll-line-length (pollOf x s), poll-most x s (eqb-true (refusalOf x s) 0 e)))
 polled-case x s false e = rw e (omega (arith, poll-line-length []))
 
+-- Readings that are not refused are those of a site of six mainline lanes at most.
+read-sound : (x : Site) (s : State) → readOf x s .refusal ≡ 0 → refusalOf x s ≡ 0
+unfolding readOf refusedReadings
+read-sound x s e = by-test (eqb (refusalOf x s) 0) (λ a. eqb-true (refusalOf x s) 0 a) (λ a. rw a at e)
+
+speeds-case : (x : Site) (s : State) → length (speedsText x s) ≤ longestSpeeds
+unfolding speedsText
+speeds-case x s =
+    by-test (eqb (readOf x s .refusal) 0)
+    (λ e. rw e (speeds-most (readOf x s) (mainlineLanes x) (timings-good x (site-sound x s (read-sound x s (eqb-true (readOf x s .refusal) 0 e))) .mainline-most)))
+    (λ e. rw e (omega arith))
+
 answer-case : (x : Site) (number : ℕ) (t : Ticked) (b : Bool) → completes t ≡ b → length (tickLine number (meteredLanes x) t) ≤ longestTick
     → length (answerText x number t) ≤ longestAnswer
 unfolding answerText
-answer-case x number t true e h = let a = polled-case x (t .state) _ refl in rw e (simp length-append (omega arith))
+answer-case x number t true e h = let a = polled-case x (t .state) _ refl in let b = speeds-case x (t .state) in rw e (simp length-append (omega arith))
 answer-case x number t false e h = rw e (simp length-append (omega arith))
 
 pub answer-most : (x : Site) (number : ℕ) (t : Ticked) → length (tickLine number (meteredLanes x) t) ≤ longestTick → length (answerText x number t) ≤ longestAnswer

@@ -12,9 +12,11 @@ use Rattle.output.specs.Output.{answerOf, bufferOf}
 use Rattle.site.specs.declared.Site.{Site}
 use Rattle.site.specs.Named.{meteredLanes, mainlineLanes, shapeOf}
 use Rattle.site.proofs.TimingLaws.{timings-good}
+use Rattle.lane_speeds.specs.declared.KeptSpeeds.{KeptSpeeds}
 use Rattle.period.specs.declared.Counts.{Counts}
 use Rattle.period.specs.declared.Periods.{Periods}
-use Rattle.period.specs.Counting.{nextSerial, closedOf, afterTick, afterRelease}
+use Rattle.period.specs.Counting.{closedOf, afterTick, afterRelease}
+use Rattle.period.proofs.RangeLaws.{next-some}
 use Rattle.state.specs.declared.State.{State}
 use Rattle.state.proofs.StateLaws.{good-state}
 use Rattle.tick.specs.declared.Input.{Input}
@@ -23,7 +25,8 @@ use Rattle.tick.specs.Tick.{countedIn, acceptedTick, refusedTick, tickOf}
 use Rattle.tick.proofs.TickLaws.{accepted, tick-keeps}
 use Rattle.poll.specs.Poll.{pollOf, refusalOf}
 use Rattle.poll.proofs.PollLaws.{length-poll, site-sound}
-use Rattle.replay_lines.specs.Answer.{completes, polledText, PeriodPolled}
+use Rattle.readings.specs.Readings.{readingsOf, readOf}
+use Rattle.replay_lines.specs.Answer.{completes, polledText, speedsText, PeriodPolled}
 
 front-case : (earlier : ℕ) (text d : List ℕ) (b : Bool) → eqb earlier 0 ≡ b → (earlier ≡ 0 → length text ≤ length d)
     → take (answerOf earlier text d .count) (bufferOf earlier text d) ≡ cond (eqb earlier 0) text []
@@ -42,15 +45,10 @@ poll-most x s h =
     omega (arith, length-poll (s .periods) (meteredLanes x) (mainlineLanes x), good .lanes-most, good .mainline-most)
 
 -- A period that a tick closes has a serial from 1 on, and a green that begins at that tick leaves it.
-next-case : (serial : ℕ) (b : Bool) → eqb serial 4294967295 ≡ b → 1 ≤ nextSerial serial
-unfolding nextSerial
-next-case serial true e = rw e (omega (arith, eqb-true serial 4294967295 e))
-next-case serial false e = rw e (omega arith)
-
-closed-case : (p : Periods) (c : Counts) (b : Bool) → ltb (p .ticks) 299 ≡ b → closedOf p c .ticks ≡ 0 → 1 ≤ closedOf p c .serial
+closed-case : (p : Periods) (c : Counts) (k : KeptSpeeds) (b : Bool) → ltb (p .ticks) 299 ≡ b → closedOf p c k .ticks ≡ 0 → 1 ≤ closedOf p c k .serial
 unfolding closedOf
-closed-case p c true e z = let y = rw e at z in absurd (omega arith)
-closed-case p c false e z = rw e (next-case (p .serial) _ refl)
+closed-case p c k true e z = let y = rw e at z in absurd (omega arith)
+closed-case p c k false e z = rw e (next-some (p .serial))
 
 released-case : (p : Periods) (released : ℕ) (a b : Bool) → eqb released 0 ≡ a → eqb (p .ticks) 0 ≡ b
     → (afterRelease p released .ticks ≡ p .ticks) × (afterRelease p released .serial ≡ p .serial)
@@ -64,7 +62,7 @@ module _ (x : Site) (s : State) (i : Input) where
   unfolding acceptedTick countedIn afterTick
   some-serial z =
       let r = released-case (countedIn x s i) (acceptedTick x s i .released) _ _ refl refl in
-      rw (r .1) (closed-case (s .periods) _ _ refl (sym (r .0) ∙ z))
+      rw (r .1) (closed-case (s .periods) _ _ _ refl (sym (r .0) ∙ z))
 
   -- An accepted tick: its site is not spoilt, and its state is in range.
   polled-accepted : tickRefusal x s i ≡ 0 → acceptedTick x s i .state .periods .ticks ≡ 0 → refusalOf x (acceptedTick x s i .state) ≡ 0
@@ -86,5 +84,7 @@ module _ (x : Site) (s : State) (i : Input) where
   period-polled h = completed-case _ _ refl refl h
 
 pub periods-polled : (x : Site) → PeriodPolled x
-unfolding PeriodPolled polledText
-periods-polled x s i h = rw (eq-eqb (refusalOf x (tickOf x s i .state)) 0 (period-polled x s i h))
+unfolding PeriodPolled polledText speedsText readOf readingsOf
+periods-polled x s i h =
+    let e = eq-eqb (refusalOf x (tickOf x s i .state)) 0 (period-polled x s i h) in
+    (rw e, rw e)

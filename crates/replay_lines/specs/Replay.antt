@@ -87,4 +87,4 @@ replayText x input = headingLine ++ (outputOf x input (startOf x) ++ lastText x 
 
 -- No line adds more bytes.
 abbrev pub longestAnswer : ℕ
-longestAnswer = 512
+longestAnswer = 544

@@ -1,9 +1,9 @@
-// What a tick's end adds to the output: the tick's line, and the poll's.
+// What a tick's end adds to the output: the tick's line, the poll's, and the readings'.
 ghost use mathlib.Core.Path.{_≡_};
 ghost use Prim.Native.Nat.{_≤_};
 ghost use lib.ListN.{length};
 ghost use Rattle.text.specs.Put.{Put};
-ghost use Rattle.replay_lines.specs.Answer.{completes, polledText, answerText};
+ghost use Rattle.replay_lines.specs.Answer.{completes, polledText, speedsText, answerText};
 ghost use Rattle.replay_lines.specs.Replay.{longestAnswer};
 use site::Site;
 use state::State;
@@ -20,6 +20,17 @@ fn put_poll(out: &mut [u8], at: usize, site: Site, state: State) -> usize
     let written = poll::poll(site, state, &mut bytes);
     let n = written.count;
     tick_text::put_poll(out, at, &bytes[..n])
+}
+
+// The line of the readings.
+fn put_speeds(out: &mut [u8], at: usize, site: Site, state: State) -> usize
+    ensures { λ r. ⌜ Put (now (out .entry)) at (speedsText site state) r (now (out .exit)) ⌝ }
+{
+    let readings = readings::read(site, state);
+    if readings.refusal != 0 {
+        return at;
+    }
+    readings_text::put_speeds(out, at, readings, site::shape_of(site).mainline)
 }
 
 // Whether the tick completed a period.
@@ -42,5 +53,6 @@ pub fn put_answer(out: &mut [u8], at: usize, site: Site, number: u64, ticked: Ti
         return end;
     }
     let state = ticked.state;
-    put_poll(out, end, site, state)
+    let polled = put_poll(out, end, site, state);
+    put_speeds(out, polled, site, state)
 }

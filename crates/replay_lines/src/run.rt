@@ -52,7 +52,7 @@ pub struct Taken {
 }
 
 // No line adds more bytes to the output.
-pub const LONGEST_ANSWER: usize = 512;
+pub const LONGEST_ANSWER: usize = 544;
 
 fn no_refused() -> Refused
     ensures { λ r. ⌜ r ≡ noRefused ⌝ }

@@ -202,8 +202,8 @@ fn run_samples() {
         sum = with_six(sum, occupied);
         let vehicles = main.vehicles;
         sum = with_six(sum, vehicles);
-        let speed = main.speed;
-        sum = with_six(sum, speed);
+        let time = main.time;
+        sum = with_six(sum, time);
     }
     print_count(b"samples ", sum);
     io::write_all(STDOUT_FILENO, b"\n");

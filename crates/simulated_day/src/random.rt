@@ -87,15 +87,15 @@ fn occupied(x: u32) -> [u16; 6] {
     ]
 }
 
-// To 248 km/h.
-fn speeds(x: u32) -> [u16; 6] {
+// To 1240 ms.
+fn times(x: u32) -> [u16; 6] {
     [
-        (x % 32 * 8) as u16,
-        (x / 32 % 32 * 8) as u16,
-        (x / 1024 % 32 * 8) as u16,
-        (x / 32768 % 32 * 8) as u16,
-        (x / 1048576 % 32 * 8) as u16,
-        (x / 33554432 % 32 * 8) as u16,
+        (x % 32 * 40) as u16,
+        (x / 32 % 32 * 40) as u16,
+        (x / 1024 % 32 * 40) as u16,
+        (x / 32768 % 32 * 40) as u16,
+        (x / 1048576 % 32 * 40) as u16,
+        (x / 33554432 % 32 * 40) as u16,
     ]
 }
 
@@ -115,7 +115,7 @@ pub fn draw(random: u32) -> Drawn {
             working: working(b),
             occupied: occupied(b),
             vehicles: vehicles(c),
-            speed: speeds(d),
+            time: times(d),
         },
     }
 }

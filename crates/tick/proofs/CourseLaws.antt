@@ -73,7 +73,7 @@ module _ (x : Site) (ok : spoiltSite x ≡ false) where
     pub answer : isAccepted c call ≡ true → answerTo c call ≡ acceptedTick x (c .state) (call .input)
     answer e = answer-accepted c call e ∙ ap (λ y. acceptedTick y (c .state) (call .input)) (same e)
 
-    onward-state : isAccepted c call ≡ true → onward c call .state ≡ acceptedTick x (c .state) (call .input) .state
+    pub onward-state : isAccepted c call ≡ true → onward c call .state ≡ acceptedTick x (c .state) (call .input) .state
     unfolding onward
     onward-state e = ap (λ r. r .state) (answer e)
 

@@ -16,12 +16,14 @@ use Rattle.calendar.specs.Clock.{clockBad}
 use Rattle.calendar.specs.Named.{Typed}
 use Rattle.inputs.specs.Samples.{samplesBad, callsBad}
 use Rattle.inputs.specs.Commands.{commandsBad}
-use Rattle.period.proofs.RangeLaws.{periods-released}
+use Rattle.period.proofs.RangeLaws.{periods-after, periods-released}
 use Rattle.wanted.specs.declared.wish.Wish.{Wish}
 use Rattle.wanted.specs.declared.wish.Wish.the-variants.{Dark, Green, Metering, Clear}
 use Rattle.wanted.specs.Wish.{rateOf}
-use Rattle.wanted.specs.Decision.{EntryInForce, decisionOf}
+use Rattle.wanted.specs.Decision.{EntryInForce, commandInForce, decisionOf}
+use Rattle.wanted.specs.Levelled.{Levelled}
 use Rattle.wanted.proofs.EntryLaws.{day-is, entry-is}
+use Rattle.wanted.proofs.LevelLaws.{levelled}
 use Rattle.wanted.proofs.RateLaws.{WishGood, wish-good, rate-cases}
 use Rattle.release.specs.Cycle.{cycleTicks}
 use Rattle.release.proofs.CycleLaws.{cycle-nearest, cycle-most, cycle-least, no-cycle}
@@ -144,6 +146,15 @@ module _ (x : Site) (s : State) (i : Input) (a : Accepted x s i) where
   pub tick-entry : EntryInForce x (i .clock) (acceptedTick x s i .decision .entry)
   unfolding acceptedTick decidedIn decisionOf
   tick-entry = entry-is x (i .clock) (a .site) (a .clock)
+
+  -- Its level is the one that whole numbers decide.
+  pub tick-levelled : Levelled x (commandInForce x (i .clock) (i .manual) (i .centre)) (countedIn x s i) (acceptedTick x s i .decision .level)
+  unfolding acceptedTick decidedIn countedIn
+  tick-levelled =
+      let n = meteredLanes x in
+      let m = mainlineLanes x in
+      levelled x (i .clock) (i .manual) (i .centre) (countedIn x s i) n (timings-good x (a .site) .mainline-most)
+      (periods-after (s .periods) (i .lanes) (i .main) n m (state-good s (shapeOf x) (a .state) .periods) (a .samples))
 
   -- Its cycle is the nearest whole tick and lies in 20 to 720 where metering is wished, and is none elsewhere.
   pub tick-cycle : Cycled (timingsOf x .vehicles) (acceptedTick x s i .decision .wish) (acceptedTick x s i .cycle)

@@ -7,14 +7,15 @@ ghost use Rattle.site.specs.Record.{spoiltSite};
 ghost use Rattle.site.specs.Named.{timingsOf, shapeOf};
 ghost use Rattle.wanted.specs.Wish.{rateOf};
 ghost use Rattle.calendar.specs.Named.{Typed};
-ghost use Rattle.wanted.specs.Decision.{EntryInForce};
+ghost use Rattle.wanted.specs.Decision.{EntryInForce, commandInForce};
+ghost use Rattle.wanted.specs.Levelled.{Levelled};
 ghost use Rattle.release.specs.Cycle.{cycleTicks};
 ghost use Rattle.group.specs.Steered.{Steered};
 ghost use Rattle.group.specs.Searched.{Searched};
 ghost use Rattle.serving.specs.Bypassed.{Bypassed};
 ghost use Rattle.state.specs.State.{stateSpoilt};
 ghost use Rattle.tick.specs.Checks.{sampleBad, inputRefusal, tickRefusal};
-ghost use Rattle.tick.specs.Tick.{powerUpOf, decidedOf, finishedWith, acceptedTick, refusedTick, tickOf};
+ghost use Rattle.tick.specs.Tick.{powerUpOf, countedIn, decidedOf, finishedWith, acceptedTick, refusedTick, tickOf};
 ghost use Rattle.tick.specs.Cycle.{Cycled};
 ghost use Rattle.tick.specs.Waiting.{WaitingBound};
 ghost use Rattle.tick.specs.Preemption.{PreemptionClears};
@@ -247,6 +248,7 @@ pub fn tick(site: Site, state: State, input: Input) -> Ticked
     ensures kept { λ r. ⌜ (r .refusal ≡ 0 → stateSpoilt (r .state) (shapeOf site) ≡ false) ⌝ }
     ensures day { λ r. ⌜ (r .refusal ≡ 0 → Typed (input .clock .date) (site .dates) (site .holidays) (r .decision .day)) ⌝ }
     ensures entry { λ r. ⌜ (r .refusal ≡ 0 → EntryInForce site (input .clock) (r .decision .entry)) ⌝ }
+    ensures levelled { λ r. ⌜ (r .refusal ≡ 0 → Levelled site (commandInForce site (input .clock) (input .manual) (input .centre)) (countedIn site state input) (r .decision .level)) ⌝ }
     ensures steered { λ r. ⌜ (r .refusal ≡ 0 → Steered (timingsOf site) (input .calls .preemption) (r .decision .wish) (state .group) (r .state .group .interval)) ⌝ }
     ensures cycled { λ r. ⌜ (r .refusal ≡ 0 → Cycled (timingsOf site .vehicles) (r .decision .wish) (r .cycle)) ⌝ }
     ensures searched { λ r. ⌜ (r .refusal ≡ 0 → Searched (timingsOf site) (r .cycle) (input .lanes) (state .group) (record { group = r .state .group; released = r .released })) ⌝ }

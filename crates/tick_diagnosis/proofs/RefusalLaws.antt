@@ -19,7 +19,7 @@ use Rattle.inputs.specs.declared.MeteredSample.{MeteredSample}
 use Rattle.inputs.specs.declared.LaneSample.{LaneSample}
 use Rattle.inputs.specs.declared.Calls.{Calls}
 use Rattle.inputs.specs.declared.Command.{Command}
-use Rattle.inputs.specs.Samples.{meteredSampleOf, laneSampleOf, flags, occupancies, speeds, meteredBad, laneBad, samplesBad, callsBad}
+use Rattle.inputs.specs.Samples.{meteredSampleOf, laneSampleOf, flags, occupancies, times, meteredBad, laneBad, samplesBad, callsBad}
 use Rattle.inputs.specs.Commands.{kinds, carriesNothing, commandBad, commandsBad}
 use Rattle.tick.specs.declared.Input.{Input}
 use Rattle.tick.specs.Checks.{sampleBad, inputRefusal}
@@ -102,7 +102,7 @@ says-metered i s = rw (← above (flags .high) (s .demand), ← above (flags .hi
 says-mainline : (j : ℕ) (s : LaneSample) → Says (inMainline j s) 9 (laneBad s)
 unfolding inMainline laneBad
 says-mainline j s =
-    rw (← above (flags .high) (s .working), ← above (occupancies .high) (s .occupied), ← above (flags .high) (s .vehicles), ← above (speeds .high) (s .speed))
+    rw (← above (flags .high) (s .working), ← above (occupancies .high) (s .occupied), ← above (flags .high) (s .vehicles), ← above (times .high) (s .time))
     (says-first (says-number _ _ _ _ refl) (says-first (says-number _ _ _ _ refl) (says-first (says-number _ _ _ _ refl) (says-number _ _ _ _ refl))))
 
 says-calls : (calls : Calls) → Says (inCalls calls) 9 (callsBad calls)

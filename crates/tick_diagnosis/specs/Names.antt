@@ -33,7 +33,7 @@ partText Communications = ascii "communications, "
 abbrev pub nameText : Part → ℕ → List ℕ
 nameText TheClock column = item (ascii "year,month,day,tenth") column
 nameText (MeteredLane i) column = item (ascii "demand,passage") column
-nameText (MainlineLane j) column = item (ascii "working,occupied,vehicles,speed") column
+nameText (MainlineLane j) column = item (ascii "working,occupied,vehicles,time") column
 nameText TheCalls column = item (ascii "preemption,bypass") column
 nameText Manual column = item (ascii "kind,rate,table") column
 nameText Communications column = item (ascii "kind,rate,table") column

@@ -12,7 +12,7 @@ use Rattle.inputs.specs.declared.MeteredSample.{MeteredSample}
 use Rattle.inputs.specs.declared.LaneSample.{LaneSample}
 use Rattle.inputs.specs.declared.Calls.{Calls}
 use Rattle.inputs.specs.declared.Command.{Command}
-use Rattle.inputs.specs.Samples.{meteredSampleOf, laneSampleOf, flags, occupancies, speeds}
+use Rattle.inputs.specs.Samples.{meteredSampleOf, laneSampleOf, flags, occupancies, times}
 use Rattle.inputs.specs.Commands.{kinds}
 use Rattle.tick.specs.declared.Input.{Input}
 use Rattle.tick_diagnosis.specs.declared.number.Part.{Part}
@@ -44,13 +44,13 @@ inClock c =
 unfoldable pub inMetered : ℕ → MeteredSample → Number
 inMetered i s = firstOf (numberOf (MeteredLane i) 0 (s .demand) flags) (numberOf (MeteredLane i) 1 (s .passage) flags)
 
--- A mainline lane: working, occupied, vehicles, speed.
+-- A mainline lane: working, occupied, vehicles, time.
 unfoldable pub inMainline : ℕ → LaneSample → Number
 inMainline j s =
     firstOf (numberOf (MainlineLane j) 0 (s .working) flags)
     (firstOf (numberOf (MainlineLane j) 1 (s .occupied) occupancies)
     (firstOf (numberOf (MainlineLane j) 2 (s .vehicles) flags)
-    (numberOf (MainlineLane j) 3 (s .speed) speeds)))
+    (numberOf (MainlineLane j) 3 (s .time) times)))
 
 -- The calls: preemption, bypass.
 unfoldable pub inCalls : Calls → Number

@@ -47,12 +47,7 @@ pub fn put_name(out: &mut [u8], at: usize, part: Part, column: usize) -> usize
     match part {
         Part::TheClock => text::put_item(out, at, b"year,month,day,tenth", column),
         Part::MeteredLane(_) => text::put_item(out, at, b"demand,passage", column),
-        Part::MainlineLane(_) => text::put_item(
-            out,
-            at,
-            b"working,occupied,vehicles,speed",
-            column,
-        ),
+        Part::MainlineLane(_) => text::put_item(out, at, b"working,occupied,vehicles,time", column),
         Part::TheCalls => text::put_item(out, at, b"preemption,bypass", column),
         Part::Manual => text::put_item(out, at, b"kind,rate,table", column),
         Part::Communications => text::put_item(out, at, b"kind,rate,table", column),

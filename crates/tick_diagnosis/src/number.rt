@@ -43,9 +43,9 @@ const OCCUPANCIES: Range = Range {
     high: inputs::MOST_OCCUPIED,
 };
 
-const SPEEDS: Range = Range {
+const TIMES: Range = Range {
     low: 0,
-    high: inputs::MOST_SPEED,
+    high: inputs::MOST_TIME,
 };
 
 const KINDS: Range = Range {
@@ -122,8 +122,8 @@ fn in_mainline(j: u16, s: LaneSample) -> Number
     let working = number_of(Part::MainlineLane(j), 0, s.working, FLAGS);
     let occupied = number_of(Part::MainlineLane(j), 1, s.occupied, OCCUPANCIES);
     let vehicles = number_of(Part::MainlineLane(j), 2, s.vehicles, FLAGS);
-    let speed = number_of(Part::MainlineLane(j), 3, s.speed, SPEEDS);
-    first(working, first(occupied, first(vehicles, speed)))
+    let time = number_of(Part::MainlineLane(j), 3, s.time, TIMES);
+    first(working, first(occupied, first(vehicles, time)))
 }
 
 fn in_calls(calls: Calls) -> Number

@@ -160,21 +160,21 @@ fn lane_at(bytes: &[u8], m: u16, j: u16, p: usize) -> LaneSample
     ensures working { λ r. ⌜ r .working ≡ ofLane (words (now (bytes .entry))) m j p ⌝ }
     ensures occupied { λ r. ⌜ r .occupied ≡ ofLane (words (now (bytes .entry))) m j (p + 1) ⌝ }
     ensures vehicles { λ r. ⌜ r .vehicles ≡ ofLane (words (now (bytes .entry))) m j (p + 2) ⌝ }
-    ensures speed { λ r. ⌜ r .speed ≡ ofLane (words (now (bytes .entry))) m j (p + 3) ⌝ }
+    ensures time { λ r. ⌜ r .time ≡ ofLane (words (now (bytes .entry))) m j (p + 3) ⌝ }
 {
     if m <= j {
         return LaneSample {
             working: 0,
             occupied: 0,
             vehicles: 0,
-            speed: 0,
+            time: 0,
         };
     }
     LaneSample {
         working: word_at(bytes, p),
         occupied: word_at(bytes, p + 1),
         vehicles: word_at(bytes, p + 2),
-        speed: word_at(bytes, p + 3),
+        time: word_at(bytes, p + 3),
     }
 }
 
@@ -213,7 +213,7 @@ fn mainline_of(bytes: &[u8], m: u16, p: usize) -> Mainline
             e.vehicles,
             f.vehicles,
         ],
-        speed: [a.speed, b.speed, c.speed, d.speed, e.speed, f.speed],
+        time: [a.time, b.time, c.time, d.time, e.time, f.time],
     }
 }
 

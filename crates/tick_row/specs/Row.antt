@@ -1,5 +1,5 @@
 -- A tick as one row of numbers, in the order of document 02's tick record: year, month, day and the two halves of the tenth; demand and
--- passage of each metered lane; working, occupied, vehicles and speed of each mainline lane; preemption and bypass; kind, rate and table of
+-- passage of each metered lane; working, occupied, vehicles and travel time of each mainline lane; preemption and bypass; kind, rate and table of
 -- the manual and then of the communications command. Replay's line and the test cases are read by this, and the tick record, which has
 -- counts between, by its parts.
 use Prim.Native.Nat.{ℕ, _+_, _*_}
@@ -42,13 +42,13 @@ unfoldable pub ofMainline : List ℕ → ℕ → ℕ → List ℕ
 ofMainline row m p =
     ofLane row m 0 p ∷ ofLane row m 1 (p + 4) ∷ ofLane row m 2 (p + 8) ∷ ofLane row m 3 (p + 12) ∷ ofLane row m 4 (p + 16) ∷ ofLane row m 5 (p + 20) ∷ []
 
--- "Working, occupied, vehicles and speed per lane", from this place on.
+-- "Working, occupied, vehicles and speed per lane", the travel time in place of the speed, from this place on.
 unfoldable pub mainlineOf : List ℕ → ℕ → ℕ → Mainline
 mainlineOf row m p = record {
   working = ofMainline row m p;
   occupied = ofMainline row m (p + 1);
   vehicles = ofMainline row m (p + 2);
-  speed = ofMainline row m (p + 3);
+  time = ofMainline row m (p + 3);
 }
 
 -- "Preemption and bypass", from this place on.

@@ -137,7 +137,7 @@ fn mainline_of(row: &[u16], m: u16, p: usize) -> Mainline
         working: of_mainline(row, m, p),
         occupied: of_mainline(row, m, p + 1),
         vehicles: of_mainline(row, m, p + 2),
-        speed: of_mainline(row, m, p + 3),
+        time: of_mainline(row, m, p + 3),
     }
 }
 

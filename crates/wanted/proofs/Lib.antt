@@ -1,3 +1,4 @@
 pub mod ClockLaws
 pub mod EntryLaws
 pub mod RateLaws
+pub mod LevelLaws

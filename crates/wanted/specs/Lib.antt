@@ -1,2 +1,3 @@
 pub mod Wish
 pub mod Decision
+pub mod Levelled

@@ -25,7 +25,10 @@ use Rattle.bypass.specs.Bypass.{laterOf, isTimeUp, beginsAt, endsAt, keptOf, ma
 use Rattle.bypass.specs.Lanes.{placeOf, priorityOf, hasPassed, endingsOf, otherNotRed, othersRed, releasedFor, doingOf}
 use Rattle.bypass.specs.Range.{bypassSpoilt}
 use Rattle.turns.specs.Turn.{nextOf}
-use Rattle.period.specs.Counting.{speedOf, timedOf, laneCounted, laneCountedAt, passagesAt, countedOf, nextSerial, closedOf, afterTick, greensAt, greenCounted, afterRelease}
+use Rattle.period.specs.Counting.{timedOf, laneCounted, laneCountedAt, passagesAt, countedOf, nextSerial, closedOf, afterTick, greensAt, greenCounted, afterRelease}
+use Rattle.lane_speeds.specs.Speeds.{slowerOf, afterVehicle, timeAt, speedsTimed, lastMeasured, speedsClosed, spoiltAt, laneSpeedsSpoilt, speedsSpoilt}
+use Rattle.speed.specs.Speed.{speedSpoilt}
+use lib.Ieee.{eq}
 use Rattle.period.specs.Counts.{noPeriods, goodOf}
 use Rattle.period.specs.Range.{laneSpoilt as countsLaneSpoilt, laneKept as countsLaneKept, laneSpoiltAt as countsLaneSpoiltAt, meteredSpoilt, meteredKept, meteredSpoiltAt, countsSpoilt, lastTicks, periodsSpoilt}
 use Rattle.plan.specs.Entry.{onDay}
@@ -33,7 +36,7 @@ use Rattle.plan.specs.InForce.{applies, takesOver, inForceOf}
 use Rattle.plan.specs.PastMidnight.{inForceNow}
 use Rattle.wanted.specs.Decision.{dayOf, entryInForce, commandInForce, decisionOf}
 use Rattle.wanted.specs.Wish.{plannedOf, sourceOf, choiceOf}
-use Rattle.inputs.specs.Samples.{meteredBad, laneBad, samplesBad, callsBad}
+use Rattle.inputs.specs.Samples.{meteredBad, laneBad, samplesBad, callsBad, travelTime}
 use Rattle.inputs.specs.Commands.{carriesNothing, commandBad, commandsBad}
 use Rattle.calendar.specs.Clock.{clockBad}
 use Rattle.calendar.specs.Dates.{daysBefore, monthLength, isDate, lastOf, dayBefore, dayNumber, weekdayOf}
@@ -50,5 +53,5 @@ use Rattle.levels.specs.Levels.{reachesOf, isSlow, isMet}
 
 -- To unfold this is to unfold what its line names.
 unfoldable pub computing : Unit {0}
-unfolding clearingTicks clears isPreMetering isHeld steeredWish ordinaryInterval sampleBad callsBad isWaiting isWaitingBut waitsAsItBegins isCalling othersTicks servingTicks beginsBypass isServed waitingBound turnTicks atPowerUp answerTo isAccepted onward greenBegins allDark toNearest cycleTicks roundedUp dayTypeOf isDate daysBefore monthLength dayNumber weekdayOf inMonth todayOf lastOf dayBefore yesterdayOf isFloating inWeek isFixed isMoving isNamed measuresOf totalsOf goodOf isMet reachesOf isSlow wordsOf readOf sectionOf isGood rangeOf timingRange isWithin stateAfter answerAt releasesFrom releases inputRefusal tickRefusal timingsOf powerUpOf countedIn decidedIn cycleIn movedIn acceptedTick refusedTick tickOf stateSpoilt freshState allRed intervalOf bypassIn lanesIn releasedIn groupOf lanesMoved movedWith movedOf colourShown lowerShown signShown laneShown indicationsOf ageOf timeOf successorOf nextInterval colourSpoilt laneSpoilt laneKept laneSpoiltAt lanesSpoilt groupSpoilt riseOf passagesOf greenEnds greenAt yellowAt laneTick laneOf lanesOf endingOf laneTickAt lanesTick laneEntered lanesEntered laterOf isTimeUp beginsAt endsAt keptOf markOf timerOf bypassOf placeOf priorityOf hasPassed endingsOf otherNotRed othersRed hasBeenRed releasedFor doingOf bypassSpoilt offsetTicks isReady readyAt anyGreen mayRelease nextOf releasedOf greenIf releaseOf speedOf timedOf laneCounted laneCountedAt passagesAt countedOf nextSerial closedOf afterTick greensAt greenCounted afterRelease noPeriods countsLaneSpoilt countsLaneKept countsLaneSpoiltAt meteredSpoilt meteredKept meteredSpoiltAt countsSpoilt lastTicks periodsSpoilt dayOf onDay applies takesOver inForceOf inForceNow entryInForce entryRange dayOrWeekRange weekdayRange moveRange holidayRange levelRange commandInForce decisionOf plannedOf sourceOf choiceOf meteredBad laneBad samplesBad carriesNothing commandBad commandsBad clockBad spoiltOf spoiltSite rateRange tableRange
+unfolding clearingTicks clears isPreMetering isHeld steeredWish ordinaryInterval sampleBad callsBad isWaiting isWaitingBut waitsAsItBegins isCalling othersTicks servingTicks beginsBypass isServed waitingBound turnTicks atPowerUp answerTo isAccepted onward greenBegins allDark toNearest cycleTicks roundedUp dayTypeOf isDate daysBefore monthLength dayNumber weekdayOf inMonth todayOf lastOf dayBefore yesterdayOf isFloating inWeek isFixed isMoving isNamed measuresOf totalsOf goodOf isMet reachesOf isSlow wordsOf readOf sectionOf isGood rangeOf timingRange isWithin stateAfter answerAt releasesFrom releases inputRefusal tickRefusal timingsOf powerUpOf countedIn decidedIn cycleIn movedIn acceptedTick refusedTick tickOf stateSpoilt freshState allRed intervalOf bypassIn lanesIn releasedIn groupOf lanesMoved movedWith movedOf colourShown lowerShown signShown laneShown indicationsOf ageOf timeOf successorOf nextInterval colourSpoilt laneSpoilt laneKept laneSpoiltAt lanesSpoilt groupSpoilt riseOf passagesOf greenEnds greenAt yellowAt laneTick laneOf lanesOf endingOf laneTickAt lanesTick laneEntered lanesEntered laterOf isTimeUp beginsAt endsAt keptOf markOf timerOf bypassOf placeOf priorityOf hasPassed endingsOf otherNotRed othersRed hasBeenRed releasedFor doingOf bypassSpoilt offsetTicks isReady readyAt anyGreen mayRelease nextOf releasedOf greenIf releaseOf travelTime slowerOf afterVehicle timeAt speedsTimed lastMeasured speedsClosed spoiltAt laneSpeedsSpoilt speedsSpoilt speedSpoilt eq timedOf laneCounted laneCountedAt passagesAt countedOf nextSerial closedOf afterTick greensAt greenCounted afterRelease noPeriods countsLaneSpoilt countsLaneKept countsLaneSpoiltAt meteredSpoilt meteredKept meteredSpoiltAt countsSpoilt lastTicks periodsSpoilt dayOf onDay applies takesOver inForceOf inForceNow entryInForce entryRange dayOrWeekRange weekdayRange moveRange holidayRange levelRange commandInForce decisionOf plannedOf sourceOf choiceOf meteredBad laneBad samplesBad carriesNothing commandBad commandsBad clockBad spoiltOf spoiltSite rateRange tableRange
 computing = tt

@@ -18,7 +18,7 @@ abbrev pub meteringUnder : Calls → ℕ → List ℕ → Input
 meteringUnder called rate demand = record {
   clock = record { date = record { year = 2024; month = 1; day = 1 }; tenth = 0 };
   lanes = record { demand = demand; passage = replicate 4 0 };
-  main = record { working = replicate 6 1; occupied = replicate 6 0; vehicles = replicate 6 0; speed = replicate 6 0 };
+  main = record { working = replicate 6 1; occupied = replicate 6 0; vehicles = replicate 6 0; time = replicate 6 0 };
   calls = called;
   manual = record { kind = 3; rate = rate; table = 0 };
   centre = record { kind = 0; rate = 0; table = 0 };

@@ -29,7 +29,7 @@ threeLanes a b c = record {
   vehicles = a ∷ b ∷ c ∷ 0 ∷ 0 ∷ 0 ∷ [];
   occupied = replicate 6 0;
   timed = replicate 6 0;
-  speeds = replicate 6 0;
+  millis = replicate 6 0;
 }
 
 -- A level with a flow threshold alone.

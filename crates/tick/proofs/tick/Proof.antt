@@ -1,7 +1,7 @@
 -- The checks, then the refused or the accepted tick.
 use Rattle.tick.specs.declared.Ticked.{Ticked}
 use Rattle.tick.specs.Tick.{refusedTick, tickOf}
-use Rattle.tick.proofs.TickLaws.{accepted, tick-day, tick-entry, tick-steered, tick-cycle, tick-searched, tick-bypassed}
+use Rattle.tick.proofs.TickLaws.{accepted, tick-day, tick-entry, tick-levelled, tick-steered, tick-cycle, tick-searched, tick-bypassed}
 use Rattle.tick.proofs.ServingLaws.{over-lists}
 use borrow.Author.Tests.{ne-eqb, eq-eqb}
 use mathlib.Core.Path.{_≡_, ap, sym, _∙_}
@@ -26,7 +26,10 @@ returns c =
         (λ z. absurd (never z)),
         (
           (λ z. absurd (never z)),
-          ((λ z. absurd (never z)), ((λ z. absurd (never z)), ((λ z. absurd (never z)), ((λ z. absurd (never z)), ((λ z. absurd (never z)), over-lists _))))),
+          (
+            (λ z. absurd (never z)),
+            ((λ z. absurd (never z)), ((λ z. absurd (never z)), ((λ z. absurd (never z)), ((λ z. absurd (never z)), ((λ z. absurd (never z)), over-lists _))))),
+          ),
         ),
       ),
     )
@@ -48,12 +51,15 @@ returns-2 c =
           (
             (λ _. rw (c .advance .ensures .0) (tick-entry (a .site) (a .state) (a .input) passed)),
             (
-              (λ _. rw (c .advance .ensures .0) (tick-steered (a .site) (a .state) (a .input))),
+              (λ _. rw (c .advance .ensures .0) (tick-levelled (a .site) (a .state) (a .input) passed)),
               (
-                (λ _. rw (c .advance .ensures .0) (tick-cycle (a .site) (a .state) (a .input) passed)),
+                (λ _. rw (c .advance .ensures .0) (tick-steered (a .site) (a .state) (a .input))),
                 (
-                  (λ _. rw (c .advance .ensures .0) (tick-searched (a .site) (a .state) (a .input) passed)),
-                  ((λ _. rw (c .advance .ensures .0) (tick-bypassed (a .site) (a .state) (a .input) passed)), over-lists _),
+                  (λ _. rw (c .advance .ensures .0) (tick-cycle (a .site) (a .state) (a .input) passed)),
+                  (
+                    (λ _. rw (c .advance .ensures .0) (tick-searched (a .site) (a .state) (a .input) passed)),
+                    ((λ _. rw (c .advance .ensures .0) (tick-bypassed (a .site) (a .state) (a .input) passed)), over-lists _),
+                  ),
                 ),
               ),
             ),

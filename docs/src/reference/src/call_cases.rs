@@ -9,6 +9,7 @@ use crate::preemption_cases;
 use crate::random::Random;
 use crate::record_cases;
 use crate::refusal_cases;
+use crate::speed_cases;
 use crate::tick_cases;
 
 const SEED: u64 = 2;
@@ -18,6 +19,6 @@ pub fn cases() -> Vec<Vec<u8>> {
     let mut r = Random::new(SEED);
     let calls = [preemption_cases::cases(), bypass_cases::cases()].concat();
     let days = [midnight_cases::cases(), moved_cases::cases()].concat();
-    let named = [calls, nearest_cases::cases(), days, refusal_cases::cases(), record_cases::cases()].concat();
+    let named = [calls, nearest_cases::cases(), days, refusal_cases::cases(), record_cases::cases(), speed_cases::cases()].concat();
     [tick_cases::cases(&mut r), named, cases::cases(&mut r, DECISIONS)].concat()
 }

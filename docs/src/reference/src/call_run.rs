@@ -8,7 +8,10 @@
 //! 6 poll into a buffer of so many bytes, or of `ROOM` where that is less;
 //! 7 decide: a row of no lanes, whose calls are not looked at; 8 write into such a buffer;
 //! 9 records: the size of such a buffer, the number B of bytes of the tick records, these bytes, and one byte of 0 more where B is odd.
-//! It prints `records`, the refusal, how many ticks were accepted, the buffer, and the state, which is then the present one.
+//! It prints `records`, the refusal, how many ticks were accepted, the buffer, and the state, which is then the present one;
+//! 10 readings: prints `readings`, the refusal, and of each of the six mainline lanes the case (0 absent, 1 measured, 2 carried over), its
+//! speed, and the latest and the slowest speed.
+//! A speed is four numbers of a state, the highest first, and prints as 16 hexadecimal digits; every NaN is taken for the same.
 //! An unknown or a cut operation ends the case.
 
 use crate::bypass::Bypass;
@@ -21,11 +24,13 @@ use crate::record::Record;
 use crate::record_tally;
 use crate::row;
 use crate::site::{self, Site};
+use crate::speed_watch;
+use crate::speeds::{Double, LaneSpeeds, Pair};
 use crate::tally::{InForce, Tally};
 use crate::text;
 use crate::tick::{self, state_spoilt, Answer, Input, KeptLane, State, NOTHING_DECIDED};
 use crate::tick_records;
-use crate::wanted::{cycle, half_goes_up, Command, Wish};
+use crate::wanted::{cycle, half_goes_up, lanes, Command, Wish};
 use std::fmt::Write;
 
 #[derive(Clone, Debug)]
@@ -41,6 +46,7 @@ pub enum Op {
     Write(u16),
     /// The size of the output, and the bytes of the records.
     Records(u16, Vec<u8>),
+    Readings,
 }
 
 /// Timing i, from 0, set to any value.
@@ -72,6 +78,7 @@ fn op_words(op: &Op) -> Vec<u16> {
             assert!(bytes.len() < 65536);
             [vec![9, *size, bytes.len() as u16], padded(bytes)].concat()
         }
+        Op::Readings => vec![10],
     }
 }
 
@@ -136,12 +143,16 @@ impl Words {
             vehicles: self.row()?,
             occupied: self.row()?,
             timed: self.row()?,
-            speeds: [0; 6],
+            millis: [0; 6],
         };
-        for sum in &mut c.speeds {
+        for sum in &mut c.millis {
             *sum = self.long()?;
         }
         Some(c)
+    }
+
+    fn double(&mut self) -> Option<Double> {
+        Some(Double::of_words(self.row()?))
     }
 
     fn state(&mut self) -> Option<State> {
@@ -160,6 +171,13 @@ impl Words {
         state.periods.current = self.counts()?;
         state.periods.serial = self.long()?;
         state.periods.last = self.counts()?;
+        let speeds = &mut state.periods.speeds;
+        for pair in speeds.current.iter_mut().chain(&mut speeds.last) {
+            *pair = Pair { latest: self.double()?, slowest: self.double()? };
+        }
+        for speed in &mut speeds.earlier {
+            *speed = self.double()?;
+        }
         Some(state)
     }
 
@@ -177,6 +195,7 @@ impl Words {
                 let (size, many) = (self.one()?, self.one()?);
                 Some(Op::Records(size, self.bytes(many)?))
             }
+            10 => Some(Op::Readings),
             _ => None,
         }
     }
@@ -190,8 +209,15 @@ fn tick_line(a: &Answer) -> String {
 }
 
 fn state_line(state: &State) -> String {
-    let numbers: Vec<String> = state.numbers().iter().map(u32::to_string).collect();
-    format!("state {}\n", numbers.join(" "))
+    let numbers = state.numbers().into_iter().map(|n| n.to_string());
+    let speeds = state.periods.speeds.doubles().into_iter().map(Double::hex);
+    format!("state {}\n", numbers.chain(speeds).collect::<Vec<String>>().join(" "))
+}
+
+/// A lane's words behind those before it.
+fn lane_words(lane: &LaneSpeeds) -> String {
+    let (case, speed) = lane.reading.numbers();
+    format!(" {case} {} {} {}", speed.hex(), lane.pair.latest.hex(), lane.pair.slowest.hex())
 }
 
 // Runs.
@@ -215,6 +241,7 @@ struct Run<'a> {
     powered: Option<Site>,
     preemptions: preemption::Watch,
     bypasses: bypass_watch::Watch,
+    speeds: speed_watch::Watch,
     /// Of the decisions and of the ticks.
     decided: InForce,
     ticked: InForce,
@@ -234,6 +261,7 @@ impl Run<'_> {
         self.powered = self.site.clone();
         self.preemptions.end_call();
         self.bypasses.power_up();
+        self.speeds.power_up();
         writeln!(self.out, "power {refusal}").unwrap();
         self.print_state();
     }
@@ -256,6 +284,7 @@ impl Run<'_> {
         let half = self.goes_up(answer.decision.wish);
         self.tally.count("ticks whose cycle is a half going up", half);
         self.ticked.note(holidays(&self.site), input.clock, &answer.decision);
+        speed_watch::count_tests(&answer.decision.tests, self.tally);
     }
 
     fn ticks(&mut self, count: u16, mut input: Input) {
@@ -305,12 +334,14 @@ impl Run<'_> {
         if let Some(site) = &self.site {
             let tick = bypass_watch::Tick { site, before: &self.state, input, answer };
             self.bypasses.tick(tick, self.powered.is_some());
+            self.speeds.tick(tick);
         }
     }
 
     fn replace_state(&mut self, state: State) {
         let spoilt = state_spoilt(&self.given, &state);
         self.tally.count(if spoilt { "states spoilt" } else { "states in range" }, 1);
+        speed_watch::count_kept(&state.periods.speeds, lanes(&self.given).1, self.tally);
         self.state = state;
         self.powered = None;
     }
@@ -338,6 +369,21 @@ impl Run<'_> {
         writeln!(self.out, "poll {refusal} {count} {}", text::hex(buffer)).unwrap();
     }
 
+    /// Held to the watch where every tick since power-up was at the present site.
+    fn readings(&mut self) {
+        let given = tick::readings(self.site.as_ref(), &self.state);
+        speed_watch::count_readings(self.site.as_ref(), &self.state, given, self.tally);
+        if self.powered.is_some() && self.site == self.powered {
+            self.speeds.readings(given);
+        }
+        let (refusal, readings) = match given {
+            Ok(readings) => (0, readings),
+            Err(refusal) => (refusal, [LaneSpeeds::default(); 6]),
+        };
+        let words: String = readings.iter().map(lane_words).collect();
+        writeln!(self.out, "readings {refusal}{words}").unwrap();
+    }
+
     fn decide(&mut self, clock: Clock, commands: [Command; 2]) {
         let (refusal, decision) = match tick::decision(self.site.as_ref(), &self.state, clock, commands) {
             Ok(decision) => (0, decision),
@@ -351,6 +397,10 @@ impl Run<'_> {
         let half = self.goes_up(decision.wish);
         self.tally.count("decisions whose cycle is a half going up", half);
         self.decided.note(holidays(&self.site), clock, &decision);
+        speed_watch::count_tests(&decision.tests, self.tally);
+        if let (0, Some(site)) = (refusal, &self.site) {
+            speed_watch::hold_thresholds(site, &self.state.periods);
+        }
         self.tally.refused(refusal);
         writeln!(self.out, "decide {refusal} {} {cycle}", text::decision(&decision)).unwrap();
     }
@@ -376,6 +426,7 @@ impl Run<'_> {
             Op::Decide(clock, commands) => self.decide(clock, commands),
             Op::Write(size) => self.write(size),
             Op::Records(size, records) => self.records(size, &records),
+            Op::Readings => self.readings(),
         }
     }
 }
@@ -400,6 +451,7 @@ pub fn answer(case: &[u8], tally: &mut Tally) -> String {
         powered: None,
         preemptions: preemption::Watch::default(),
         bypasses: bypass_watch::Watch::default(),
+        speeds: speed_watch::Watch::default(),
         decided: InForce::default(),
         ticked: InForce::default(),
         out: String::new(),
@@ -411,6 +463,7 @@ pub fn answer(case: &[u8], tally: &mut Tally) -> String {
     }
     run.preemptions.count(run.tally);
     run.bypasses.count(run.tally);
+    run.speeds.count(run.tally);
     run.decided.count("decisions", run.tally);
     run.ticked.count("ticks", run.tally);
     run.ticked.count_midnights("ticks", run.tally);

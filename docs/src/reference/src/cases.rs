@@ -1,21 +1,24 @@
-//! Random sites, clocks, commands, periods and states, and cases made of them: what is wanted, and the poll record.
+//! Random sites, clocks, commands, periods and states, and cases made of them: what is wanted, the poll record, and readings.
 
 use crate::calendar::{self, day_before, month_length, shifted, such_days, weekday, Clock, Date, SUNDAY};
 use crate::call_run::{payload, Op};
 use crate::periods::{Counts, Periods};
 use crate::random::Random;
 use crate::site::{self, bytes, Site, TIMINGS, UNUSED};
+use crate::speed_watch::EDGES;
+use crate::speeds::{quotient, Double, Pair, Speeds, LOOPS};
 use crate::tick::State;
 use crate::tick_cases::fresh;
 use crate::wanted::{measures, Command, Measures};
 
-/// A decision at a site and a state, and a poll into a buffer of so many bytes.
+/// A decision at a site and a state, a poll into a buffer of so many bytes, and at times a call for the readings.
 struct Case {
     file: Vec<u8>,
     state: State,
     clock: Clock,
     commands: [Command; 2],
     poll: u16,
+    readings: bool,
 }
 
 // Periods in range.
@@ -33,27 +36,68 @@ fn vehicles(r: &mut Random, ticks: u16) -> u16 {
     r.edged(0, ticks.min(most))
 }
 
-fn speed_sum(r: &mut Random, timed: u16) -> u32 {
-    match r.from(0, 7) {
-        0 => 0,
-        1 => 250 * timed as u32,
-        // near a whole mean speed, for its rounding
-        2..=4 => {
-            (r.number(1, 249) as u32 * timed as u32 + r.from(0, 2) as u32).saturating_sub(1).min(250 * timed as u32)
+/// Whole speeds of 1 to 250 at which a vehicle takes a whole number of milliseconds.
+pub const WHOLE_SPEEDS: [u16; 21] = [1, 2, 3, 4, 5, 6, 8, 9, 10, 12, 20, 30, 45, 60, 61, 72, 90, 120, 122, 183, 244];
+
+/// The milliseconds of so many timed vehicles: all at one speed or a millisecond beside it, the least and the most that there may be, or
+/// any; mostly those of traffic that is not too slow.
+fn millis(r: &mut Random, timed: u16, speed: Option<u16>) -> u32 {
+    let (least, most) = (timed as u64, 65535 * timed as u64);
+    let sum = match (r.from(0, 9), speed) {
+        (0..=7, Some(speed)) => LOOPS * least / speed as u64 + r.pick(&[0, 0, 0, 0, 1, 2]) - r.pick(&[0, 0, 0, 1]),
+        (8, _) => r.pick(&[least, most]),
+        (9, _) => r.from(least, most),
+        _ => {
+            let slowest = r.pick(&[130, 250, 800]);
+            r.from(88 * least, slowest * least)
         }
-        _ => r.from(0, 250 * timed as u64) as u32,
+    };
+    sum.clamp(least, most) as u32
+}
+
+/// A speed in range: none, one of a vehicle or of several, an end of the range, or any.
+fn speed(r: &mut Random) -> Double {
+    match r.from(0, 19) {
+        0..=7 => Double::ZERO,
+        8 => r.pick(&[Double(1 << 63), Double::LEAST, Double::MOST]),
+        9 | 10 => Double(r.from(Double::LEAST.0, Double::MOST.0)),
+        11..=13 => quotient(r.from(2, 300), r.from(300, 100_000)),
+        _ => {
+            let (fast, slow) = (r.from(88, 300), r.from(300, 20_000));
+            quotient(1, r.pick(&[1, 65535, fast, fast, fast, slow]))
+        }
     }
+}
+
+/// Kept speeds of m lanes, which need not go with any counts; in every fourth state none.
+pub fn speeds(r: &mut Random, m: usize) -> Speeds {
+    let mut out = Speeds::default();
+    if r.percent(25) {
+        return out;
+    }
+    for j in 0..m {
+        out.current[j] = Pair { latest: speed(r), slowest: speed(r) };
+        out.last[j] = Pair { latest: speed(r), slowest: speed(r) };
+        out.earlier[j] = speed(r);
+    }
+    // beyond m 0 is 0 with either sign
+    if m < 6 && r.percent(10) {
+        *out.of_lane_mut(5)[r.from(0, 4) as usize] = Double(1 << 63);
+    }
+    out
 }
 
 fn mainline_counts(r: &mut Random, ticks: u16, m: usize, c: &mut Counts) {
     let failing = r.pick(&[0, 0, 20, 20, 50, 50, 100]);
     let timing = r.pick(&[0, 60, 90, 100]);
+    let whole = r.pick(&WHOLE_SPEEDS);
+    let speed = if r.percent(40) { Some(whole) } else { None };
     for j in 0..m {
         c.worked[j] = if r.percent(failing) && ticks > 0 { r.edged(0, ticks - 1) } else { ticks };
         c.vehicles[j] = vehicles(r, ticks);
         c.occupied[j] = r.edged(0, 100 * ticks);
         c.timed[j] = if r.percent(timing) { r.edged(0, c.vehicles[j]) } else { 0 };
-        c.speeds[j] = speed_sum(r, c.timed[j]);
+        c.millis[j] = millis(r, c.timed[j], speed);
     }
 }
 
@@ -74,7 +118,7 @@ pub fn periods(r: &mut Random, n: usize, m: usize) -> Periods {
         _ => r.from(1, u32::MAX as u64) as u32,
     };
     let completed = if serial == 0 { 0 } else { 300 };
-    Periods { ticks, current: counts(r, ticks, n, m), serial, last: counts(r, completed, n, m) }
+    Periods { ticks, current: counts(r, ticks, n, m), serial, last: counts(r, completed, n, m), speeds: speeds(r, m) }
 }
 
 // Sites in range.
@@ -293,7 +337,7 @@ fn levels(r: &mut Random, x: Option<Measures>, tables: u16) -> Vec<[u16; 5]> {
         .map(|_| {
             let flow = threshold(r, x.map(|x| x.flow), 3000);
             let occupancy = threshold(r, x.map(|x| x.occupancy), 1000);
-            let speed = threshold(r, x.and_then(|x| x.speed), 250);
+            let speed = threshold(r, x.and_then(|x| x.timed.whole()), 250);
             let alone = r.from(0, 5);
             let used = |i: u64, t: u16| if alone < 3 && alone != i { UNUSED } else { t };
             [r.number(1, tables), used(0, flow), used(1, occupancy), used(2, speed), rate(r)]
@@ -414,7 +458,8 @@ fn sound(r: &mut Random) -> Case {
     let file = bytes(&Site { timings, entries, holidays, levels });
     let clock = Clock { date, tenth: tenth(r, &starts) };
     let state = State { periods, ..fresh(n, 0, 0) };
-    Case { file, state, clock, commands: [command(r, tables), command(r, tables)], poll: poll_size(r, n, m) }
+    let commands = [command(r, tables), command(r, tables)];
+    Case { file, state, clock, commands, poll: poll_size(r, n, m), readings: r.percent(40) }
 }
 
 // Damage.
@@ -426,14 +471,15 @@ fn damage_count(r: &mut Random, p: &mut Periods) {
     let c = if current { &mut p.current } else { &mut p.last };
     let (i, j) = (r.from(0, 3) as usize, r.from(0, 5) as usize);
     let more = r.number(0, 1);
-    match r.from(0, 6) {
+    match r.from(0, 7) {
         0 => c.passages[i] = limit + more,
         1 => c.greens[i] = limit + more,
         2 => c.worked[j] = limit + more,
         3 => c.vehicles[j] = limit + more,
         4 => c.occupied[j] = 100 * limit + more,
         5 => c.timed[j] = c.vehicles[j] + more,
-        _ => c.speeds[j] = 250 * c.timed[j] as u32 + more as u32,
+        6 => c.millis[j] = 65535 * c.timed[j] as u32 + more as u32,
+        _ => c.millis[j] = (c.timed[j] as u32).saturating_sub(more as u32),
     }
 }
 
@@ -449,12 +495,21 @@ fn damage_lane(r: &mut Random, p: &mut Periods) {
         3 => c.vehicles[j] = value,
         4 => c.occupied[j] = value,
         5 => c.timed[j] = value,
-        _ => c.speeds[j] = r.pick(&[value as u32, 65536, u32::MAX]),
+        _ => c.millis[j] = r.pick(&[value as u32, 65536, u32::MAX]),
     }
 }
 
+/// A kept speed at an end of its range or beside it, or with any bits; in any lane, those beyond m among them.
+fn damage_speed(r: &mut Random, speeds: &mut Speeds) {
+    let (_, edge) = r.pick(&EDGES);
+    let any = Double(r.from(0, u64::MAX - 1));
+    let speed = r.pick(&[edge, edge, edge, any]);
+    *speeds.of_lane_mut(r.from(0, 5) as usize)[r.from(0, 4) as usize] = speed;
+}
+
 fn damage_period(r: &mut Random, p: &mut Periods) {
-    match r.from(0, 9) {
+    match r.from(0, 12) {
+        10..=12 => damage_speed(r, &mut p.speeds),
         0..=4 => damage_count(r, p),
         5..=7 => damage_lane(r, p),
         // the counts of a completed period, at serial 0
@@ -567,7 +622,10 @@ fn random_case(r: &mut Random) -> Case {
 pub fn cases(r: &mut Random, many: usize) -> Vec<Vec<u8>> {
     assert_eq!(calendar::weekday(Date { year: 2000, month: 1, day: 1 }), 6);
     let case = |case: Case| {
-        let ops = [Op::State(case.state), Op::Decide(case.clock, case.commands), Op::Poll(case.poll)];
+        let mut ops = vec![Op::State(case.state), Op::Decide(case.clock, case.commands), Op::Poll(case.poll)];
+        if case.readings {
+            ops.push(Op::Readings);
+        }
         payload(&case.file, &ops)
     };
     (0..many).map(|_| case(random_case(r))).collect()

@@ -1,5 +1,5 @@
 //! Document 01 in plain Rust, with the preemption, the nearest cycle, the plans past midnight, the bus bypass, the one cycle per tick, the
-//! holidays that move and the many ticks in one call of document 02.
+//! holidays that move, the many ticks in one call and the speeds from loop pairs of document 02.
 //! `reference NAME` writes test inputs and what they should give:
 //!
 //! - `site-bounds stdin`, `site-bounds stdout`: the files of `crates/site_bounds`.
@@ -73,6 +73,11 @@ mod simulate;
 mod simulated_day;
 mod site;
 mod site_run;
+mod speed_cases;
+mod speed_steps;
+mod speed_text;
+mod speed_watch;
+mod speeds;
 mod tally;
 mod text;
 mod tick;

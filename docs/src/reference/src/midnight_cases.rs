@@ -458,7 +458,7 @@ fn no_entry() -> Vec<u8> {
 fn modes() -> Vec<u8> {
     let mut site = planned(&[[MON, 1200, 0, 0, 0], [WED, 1200, 1, 0, 0], [FRI, 1200, 3, 700, 2]], &[]);
     site.levels = vec![[1, 1, UNUSED, UNUSED, 500], [2, 1, UNUSED, UNUSED, 1200]];
-    let busy = |working| [Sample { working, occupied: 30, vehicles: 1, speed: 80 }; 6];
+    let busy = |working| [Sample { working, occupied: 30, vehicles: 1, time: 274 }; 6];
     let (tuesday, thursday, saturday, sunday) = (at(2025, 1, 7, 0), at(2025, 1, 9, 0), at(2025, 1, 11, 0), at(2025, 1, 12, 1200));
     let mut ops = Vec::new();
     // no period is completed yet, then one, then one without a good lane

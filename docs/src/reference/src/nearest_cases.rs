@@ -121,7 +121,7 @@ fn sourced_site() -> Site {
 
 /// Vehicles at every tick on a mainline that works or does not, at a minute and under commands.
 fn sourced(working: u16, minute: u32, commands: [Command; 2]) -> Input {
-    let mainline = [Sample { working, occupied: 30, vehicles: 1, speed: 80 }; 6];
+    let mainline = [Sample { working, occupied: 30, vehicles: 1, time: 274 }; 6];
     Input { clock: at(2025, 1, 6, minute), mainline, commands, ..passing(NONE) }
 }
 

@@ -1,5 +1,7 @@
 //! The counts of a period, how a tick adds to them, and when they are spoilt.
 
+use crate::speeds::Speeds;
+
 /// A period's ticks.
 pub const PERIOD: u16 = 300;
 
@@ -9,7 +11,15 @@ pub struct Sample {
     pub working: u16,
     pub occupied: u16,
     pub vehicles: u16,
-    pub speed: u16,
+    /// Of the vehicle from loop to loop, in milliseconds; 0 for none.
+    pub time: u16,
+}
+
+impl Sample {
+    /// The travel time of a vehicle that was timed, on a lane that works.
+    pub fn timed(&self) -> Option<u16> {
+        (self.working != 0 && self.vehicles != 0 && self.time != 0).then_some(self.time)
+    }
 }
 
 #[derive(Clone, Copy, Debug, Default)]
@@ -19,8 +29,9 @@ pub struct Counts {
     pub worked: [u16; 6],
     pub vehicles: [u16; 6],
     pub occupied: [u16; 6],
+    /// Vehicles that were timed, and the sum of their milliseconds.
     pub timed: [u16; 6],
-    pub speeds: [u32; 6],
+    pub millis: [u32; 6],
 }
 
 #[derive(Clone, Copy, Debug, Default)]
@@ -29,6 +40,7 @@ pub struct Periods {
     pub current: Counts,
     pub serial: u32,
     pub last: Counts,
+    pub speeds: Speeds,
 }
 
 /// A number as two words, high half first.
@@ -42,9 +54,9 @@ impl Counts {
         [&self.passages[..], &self.greens, &self.worked, &self.vehicles, &self.occupied, &self.timed].concat()
     }
 
-    /// All counts in 44 words, the speed sums two each.
+    /// All counts in 44 words, the sums of milliseconds two each.
     pub fn words(&self) -> Vec<u16> {
-        [self.short(), self.speeds.into_iter().flat_map(halves).collect()].concat()
+        [self.short(), self.millis.into_iter().flat_map(halves).collect()].concat()
     }
 
     fn metered_spoilt(&self, i: usize, ticks: u16) -> bool {
@@ -56,7 +68,8 @@ impl Counts {
             || self.vehicles[j] > ticks
             || self.occupied[j] as u32 > 100 * ticks as u32
             || self.timed[j] > self.vehicles[j]
-            || self.speeds[j] > 250 * self.timed[j] as u32
+            || self.millis[j] < self.timed[j] as u32
+            || self.millis[j] > 65535 * self.timed[j] as u32
     }
 
     fn kept_metered(&self, i: usize) -> bool {
@@ -65,7 +78,7 @@ impl Counts {
 
     fn kept_mainline(&self, j: usize) -> bool {
         let kept = [self.worked[j], self.vehicles[j], self.occupied[j], self.timed[j]];
-        kept != [0; 4] || self.speeds[j] != 0
+        kept != [0; 4] || self.millis[j] != 0
     }
 
     /// A count of these ticks out of range, or something kept beyond n or m.
@@ -76,20 +89,17 @@ impl Counts {
             || (m..6).any(|j| self.kept_mainline(j))
     }
 
-    /// A lane not working adds nothing; a speed without a vehicle is ignored.
+    /// A lane not working adds nothing; a time without a vehicle is ignored.
     fn add_mainline(&mut self, j: usize, s: &Sample) {
         if s.working == 0 {
             return;
         }
         self.worked[j] += 1;
         self.occupied[j] += s.occupied;
-        if s.vehicles == 0 {
-            return;
-        }
-        self.vehicles[j] += 1;
-        if s.speed != 0 {
+        self.vehicles[j] += s.vehicles;
+        if let Some(time) = s.timed() {
             self.timed[j] += 1;
-            self.speeds[j] += s.speed as u32;
+            self.millis[j] += time as u32;
         }
     }
 
@@ -102,7 +112,8 @@ impl Counts {
 impl Periods {
     pub fn spoilt(&self, n: usize, m: usize) -> bool {
         let completed = if self.serial == 0 { 0 } else { PERIOD };
-        self.ticks >= PERIOD || self.current.spoilt(self.ticks, n, m) || self.last.spoilt(completed, n, m)
+        let counts_spoilt = self.current.spoilt(self.ticks, n, m) || self.last.spoilt(completed, n, m);
+        self.ticks >= PERIOD || counts_spoilt || self.speeds.spoilt(m)
     }
 
     /// The counts of one tick, of the lanes that there are. The 300th closes the period.
@@ -112,9 +123,13 @@ impl Periods {
         }
         for (j, sample) in samples.iter().enumerate() {
             self.current.add_mainline(j, sample);
+            if let Some(time) = sample.timed() {
+                self.speeds.time(j, time);
+            }
         }
         self.ticks += 1;
         if self.ticks == PERIOD {
+            self.speeds.close(&self.last);
             self.last = std::mem::take(&mut self.current);
             self.serial = self.serial.saturating_add(1);
             self.ticks = 0;

@@ -205,7 +205,7 @@ fn period_within() -> Vec<u8> {
     site.levels = vec![[1, 120, UNUSED, UNUSED, 1200]];
     let input = |preemption| {
         let mut input = Input { passage: [1, 0, 1, 0], preemption, ..in_demand(RESPONSIVE) };
-        input.mainline = [Sample { working: 1, occupied: 30, vehicles: 1, speed: 80 }; 6];
+        input.mainline = [Sample { working: 1, occupied: 30, vehicles: 1, time: 274 }; 6];
         input
     };
     let call = |count| Op::Ticks(count, input(1));

@@ -20,7 +20,7 @@ const RUNS: u16 = 24;
 const BUSY: u16 = 8;
 const METERED: u16 = 16;
 const STRANGE: u16 = 24;
-const SPOILT: u16 = 40;
+const SPOILT: u16 = 48;
 const REFUSED: u16 = 16;
 const DAMAGED: u16 = 10;
 const AIMED: u16 = 12;
@@ -129,7 +129,7 @@ pub fn sound_input(r: &mut Random, s: &Setting) -> Input {
 /// A state in range with its ticks, then one that is spoilt, with one; by turns.
 fn spoilt_states(r: &mut Random, s: &Setting) -> Vec<Op> {
     let mut ops = Vec::new();
-    for _ in 0..60 {
+    for _ in 0..50 {
         ops.extend([Op::State(any_state(r, s)), Op::Ticks(r.number(1, 4), sound_input(r, s))]);
         let mut state = any_state(r, s);
         cases::damage_state(r, s.site.timings[0], &mut state);
@@ -141,6 +141,9 @@ fn spoilt_states(r: &mut Random, s: &Setting) -> Vec<Op> {
         ops.extend([Op::State(state), Op::Ticks(1, input)]);
         if r.percent(30) {
             ops.extend([any_poll(r, s), any_decision(r, s)]);
+        }
+        if r.percent(40) {
+            ops.push(Op::Readings);
         }
     }
     ops
@@ -226,7 +229,7 @@ fn spoilt_sites(r: &mut Random, s: &Setting) -> Vec<Op> {
             ops.push(damage_site(r, s));
         }
         ops.push(Op::Ticks(1, sound_input(r, s)));
-        ops.extend([any_decision(r, s), any_poll(r, s), any_write(r, s)]);
+        ops.extend([any_decision(r, s), any_poll(r, s), any_write(r, s), Op::Readings]);
         let powered = r.percent(10);
         if powered {
             ops.extend([Op::PowerUp, Op::Ticks(1, sound_input(r, s))]);
@@ -261,8 +264,11 @@ fn busy_run(r: &mut Random, s: &Setting) -> Vec<Op> {
         samples(r, s, few, &mut input);
         ops.push(Op::Ticks(count, input));
         input.clock = after(r, s, input.clock, count);
+        if r.percent(5) {
+            ops.push(Op::Readings);
+        }
     }
-    ops.push(any_poll(r, s));
+    ops.extend([any_poll(r, s), Op::Readings]);
     ops
 }
 
@@ -284,7 +290,7 @@ fn metered_run(r: &mut Random, k: u16) -> Vec<u8> {
         ops.push(Op::Ticks(count, input));
         input.clock = after(r, &s, input.clock, count);
     }
-    ops.push(any_poll(r, &s));
+    ops.extend([any_poll(r, &s), Op::Readings]);
     from_power_up(&bytes(&s.site), &ops)
 }
 

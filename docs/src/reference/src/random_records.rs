@@ -88,7 +88,7 @@ fn call(r: &mut Random, s: &Setting, mut inputs: Vec<Input>, wrong: usize) -> Op
 /// Something else between two calls, now and then.
 fn between(r: &mut Random, s: &Setting, ops: &mut Vec<Op>) {
     match r.from(1, 100) {
-        1..=10 => ops.push(any_poll(r, s)),
+        1..=10 => ops.extend([any_poll(r, s), Op::Readings]),
         11..=15 => ops.push(any_decision(r, s)),
         16..=25 => ops.push(Op::Ticks(r.number(1, 5), sound_input(r, s))),
         26..=30 => {
@@ -113,7 +113,7 @@ fn running(r: &mut Random, k: u16) -> Vec<u8> {
         ops.push(call(r, &s, now.to_vec(), wrong));
         left = later;
     }
-    ops.push(any_poll(r, &s));
+    ops.extend([any_poll(r, &s), Op::Readings]);
     from_power_up(&bytes(&s.site), &ops)
 }
 
@@ -148,6 +148,9 @@ fn strange(r: &mut Random, k: u16) -> Vec<u8> {
             let inputs = some_inputs(r, &s, many);
             let wrong = r.pick(&[0, 0, 1, 1, 1, 2, 3]);
             ops.push(call(r, &s, inputs, wrong));
+        }
+        if r.percent(30) {
+            ops.push(Op::Readings);
         }
         if damaged {
             ops.push(Op::Repair);

@@ -199,11 +199,16 @@ pub fn answer(run: &Run, tally: &mut Tally) -> Replayed {
     let first_words = said.output.lines().filter_map(|line| line.split(' ').next());
     tally.count("replayed ticks", first_words.filter(|word| word.parse::<u32>().is_ok()).count() as u64);
     tally.count("replayed ticks whose cycle is a half going up", said.halves);
+    let lines = |part: &str| said.output.lines().filter(|line| line.starts_with("speeds ") && line.contains(part)).count() as u64;
+    for (part, what) in [(" m ", "a measured lane"), (" c ", "a lane carried over"), (" - ", "an absent lane")] {
+        tally.count(&format!("replayed lines of speeds with {what}"), lines(part));
+    }
     tally.count("replays that end at a line that is no tick", said.output.contains(" is no tick: ") as u64);
     tally.count("replays with something refused", !said.explanation.is_empty() as u64);
     tally.count("replays", 1);
     said.preemptions.count(tally);
     said.bypasses.count(tally);
+    said.speeds.count(tally);
     said.in_force.count("replayed ticks", tally);
     said.in_force.count_midnights("replayed ticks", tally);
     said

@@ -162,7 +162,7 @@ fn refused_inputs() -> Vec<(u8, Input)> {
         (9, changed(|x| x.mainline[0].working = 2)),
         (9, changed(|x| x.mainline[2].occupied = 101)),
         (9, changed(|x| x.mainline[1].vehicles = 2)),
-        (9, changed(|x| x.mainline[2].speed = 251)),
+        (9, changed(|x| x.mainline[2].vehicles = UNUSED)),
         (9, changed(|x| x.preemption = 2)),
         (9, changed(|x| x.bypass = 2)),
         (10, changed(|x| x.commands[0] = command(5, 0, 0))),
@@ -190,10 +190,12 @@ fn refused_ticks() -> Vec<Vec<u8>> {
     refused_inputs().chunks(8).map(case).collect()
 }
 
-/// The refusal of a number of a record's row that is out of range.
+/// The refusal of a number of a record's row that is out of range; 0 of a travel time, which never is.
 fn refusal_of(i: usize, n: usize, m: usize) -> u8 {
+    let mainline = 5 + 2 * n..5 + 2 * n + 4 * m;
     match i {
         0..=4 => 8,
+        _ if mainline.contains(&i) && (i - mainline.start) % 4 == 3 => 0,
         _ if i < row::size(n, m) - 6 => 9,
         _ => 10,
     }
@@ -206,8 +208,8 @@ fn late() -> Input {
     input
 }
 
-/// Every number of a record at 65535; and each at the least that is out of range: never 15. At the site of one lane a good record
-/// is behind each.
+/// Every number of a record at 65535; and each at the least that is out of range: never 15. A travel time of 65535 is taken. At the site
+/// of one lane a good record is behind each.
 fn every_number() -> Vec<Vec<u8>> {
     let case = |n: u16, m: u16, value: &dyn Fn(usize) -> u16| {
         let site = site(n, m);
@@ -218,13 +220,15 @@ fn every_number() -> Vec<Vec<u8>> {
             let mut row = row.clone();
             row[i] = value(i);
             let bad = record(&site, row::input(&row, n, m));
-            let records = if n == 1 { [bad, behind.clone()].concat() } else { bad };
-            case.call(ENOUGH, &records, (refusal_of(i, n, m), 0));
+            let many = if n == 1 { 2 } else { 1 };
+            let records = [vec![bad], vec![behind.clone(); many - 1]].concat().concat();
+            let refusal = refusal_of(i, n, m);
+            case.call(ENOUGH, &records, (refusal, if refusal == 0 { many } else { 0 }));
         }
         case.call(ENOUGH, &behind, (0, 1));
         case.payload()
     };
-    let least = [2100, 13, 32, 14, 12_032, 2, 2, 2, 101, 2, 251, 2, 2, 5, 1, 1, 5, 1, 1];
+    let least = [2100, 13, 32, 14, 12_032, 2, 2, 2, 101, 2, UNUSED, 2, 2, 5, 1, 1, 5, 1, 1];
     vec![case(4, 6, &|_| UNUSED), case(1, 1, &|i| least[i])]
 }
 

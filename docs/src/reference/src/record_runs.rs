@@ -21,7 +21,7 @@ type Step = (u16, Input);
 fn meter() -> Input {
     let mut input = in_demand(fixed(1800));
     for (sample, k) in input.mainline.iter_mut().zip(1..) {
-        *sample = Sample { working: (k != 5) as u16, occupied: 7 * k, vehicles: (k != 4) as u16, speed: 10 * k };
+        *sample = Sample { working: (k != 5) as u16, occupied: 7 * k, vehicles: (k != 4) as u16, time: 100 * k };
     }
     input
 }

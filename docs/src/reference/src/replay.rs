@@ -6,9 +6,11 @@ use crate::periods::halves;
 use crate::preemption;
 use crate::row;
 use crate::site::{self, Site};
+use crate::speed_text;
+use crate::speed_watch;
 use crate::tally::InForce;
 use crate::text;
-use crate::tick::{poll_record, power_up, tick, Answer, Input};
+use crate::tick::{poll_record, power_up, readings, tick, Answer, Input};
 use crate::tick_diagnosis;
 use crate::wanted::{half_goes_up, lanes};
 
@@ -20,6 +22,7 @@ pub struct Replayed {
     pub explanation: String,
     pub preemptions: preemption::Watch,
     pub bypasses: bypass_watch::Watch,
+    pub speeds: speed_watch::Watch,
     pub halves: u64,
     pub in_force: InForce,
 }
@@ -94,15 +97,16 @@ fn decided(a: &Answer) -> String {
     format!("{} {} {} {}", text::decision(&a.decision), a.cycle, a.released, a.bypass.word())
 }
 
-/// The tick's line, and the poll record's where a period was completed.
+/// The tick's line; where a period was completed, also the poll record's and that of the mainline lanes' readings.
 fn tick_lines(site: &Site, number: usize, a: &Answer) -> String {
-    let (n, s) = (lanes(site).0, &a.state);
+    let ((n, m), s) = (lanes(site), &a.state);
     let line = format!("{number} {} {} {} {} {}\n", a.refusal, s.interval, s.age, text::lamps(&a.indications, n), decided(a));
     if a.refusal != 0 || !s.periods.just_closed() {
         return line;
     }
     let record = poll_record(Some(site), s).expect("a period was completed");
-    format!("{line}poll {}\n", text::hex(&record))
+    let readings = readings(Some(site), s).expect("a period was completed");
+    format!("{line}poll {}\n{}", text::hex(&record), speed_text::line(&readings[..m]))
 }
 
 /// The lines of a text; a last one may lack its newline.
@@ -135,7 +139,10 @@ fn run(site: &Site, text: &[u8]) -> Replayed {
         }
         if answer.refusal == 0 {
             said.preemptions.tick(site, input.preemption, answer.state.interval);
-            said.bypasses.tick(bypass_watch::Tick { site, before: &state, input: &input, answer: &answer }, true);
+            let now = bypass_watch::Tick { site, before: &state, input: &input, answer: &answer };
+            said.bypasses.tick(now, true);
+            said.speeds.tick(now);
+            said.speeds.readings(readings(Some(site), &answer.state));
         }
         said.halves += half_goes_up(site, answer.decision.wish) as u64;
         said.in_force.note(&site.holidays, input.clock, &answer.decision);

@@ -5,6 +5,7 @@ use crate::replay;
 use crate::replay_lines;
 use crate::replay_refusals;
 use crate::site::{bytes, Site};
+use crate::speed_text;
 use crate::tick::{power_up, tick, Input};
 use crate::tick_records::record;
 use crate::wanted::lanes;
@@ -34,7 +35,7 @@ pub fn plain(i: u32) -> Line {
     Line {
         clock: [2024, 6, 3, 215_700 + i],
         lanes: vec![[1, (i % 40 == 7) as u32], [(i / 100 % 2 == 0) as u32, (i % 55 == 9) as u32]],
-        mainline: vec![[1, 20 + i % 60, (i % 30 == 0) as u32, if i % 30 == 0 { 60 + i % 50 } else { 0 }]],
+        mainline: vec![[1, 20 + i % 60, (i % 30 == 0) as u32, if i % 30 == 0 { 200 + 3 * (i % 50) } else { 0 }]],
         preemption: 0,
         bypass: 0,
         commands: [[0, 0, 0]; 2],
@@ -60,7 +61,7 @@ pub fn ticks() -> String {
     lines[350].clock[1] = 13;
     lines[351].clock[3] = u32::MAX;
     lines[352].lanes[1][0] = 2;
-    lines[353].mainline[0][3] = 65535;
+    lines[353].mainline[0][2] = 2;
     lines[354].commands[1] = [5, 0, 0];
     lines[355].preemption = 65535;
     lines[356].bypass = 2;
@@ -118,7 +119,7 @@ fn wide_site() -> Site {
 pub fn wide(i: u32) -> Line {
     let mainline = |k: u32| {
         let vehicle = (i % (20 + k) == 0) as u32;
-        [(k != 3 || i != 9) as u32, 10 * k + i % 11, vehicle, vehicle * (40 + k)]
+        [(k != 3 || i != 9) as u32, 10 * k + i % 11, vehicle, vehicle * (400 + 37 * k + i)]
     };
     Line {
         clock: [2000, 2, 29, i],
@@ -137,6 +138,49 @@ fn wide_ticks() -> String {
     (0..302).map(|i| wide(i).text()).collect()
 }
 
+/// Vehicles of two periods there: the tick from 0, the mainline lane from 1 and the time. What the first period shows of the lanes is
+/// worked out by hand: 43920 ÷ 566; 21960; 21960 ÷ 65535; none; 65880 ÷ 2406; 43920 ÷ 65536. In the second the fourth and the fifth are
+/// measured.
+const TIMED: [(u32, usize, u32); 14] = [
+    (0, 1, 200),
+    (299, 1, 366),
+    (5, 2, 1),
+    (7, 3, 65535),
+    (10, 5, 87),
+    (20, 5, 2196),
+    (30, 5, 123),
+    (298, 6, 65535),
+    (299, 6, 1),
+    (300, 4, 244),
+    (310, 5, 48),
+    (320, 5, 200),
+    (330, 5, 16),
+    (599, 5, 220),
+];
+const SHOWN: [&str; 2] = [
+    "speeds m 77.5 60.0 60.0 m 21960.0 21960.0 21960.0 m 0.3 0.3 0.3 - 0.0 0.0 0.0 m 27.3 178.5 10.0 m 0.6 21960.0 0.3",
+    "speeds c 77.5 0.0 0.0 c 21960.0 0.0 0.0 c 0.3 0.0 0.0 m 90.0 90.0 90.0 m 181.4 99.8 99.8 c 0.6 0.0 0.0",
+];
+
+/// Two periods there with those vehicles. The fourth lane has a time without a vehicle, the fifth does not work at a tick with both.
+fn timed_ticks() -> String {
+    let line = |i: u32| {
+        let mut line = wide(i);
+        line.mainline = vec![[1, 5, 0, 0]; 6];
+        for (_, lane, time) in TIMED.iter().filter(|(tick, _, _)| *tick == i) {
+            line.mainline[lane - 1] = [1, 50, 1, *time];
+        }
+        line
+    };
+    let mut lines: Vec<Line> = (0..601).map(line).collect();
+    lines[40].mainline[3] = [1, 5, 0, 366];
+    lines[40].mainline[4] = [0, 5, 1, 366];
+    let ticks: String = lines.iter().map(Line::text).collect();
+    let said = replay::print(&bytes(&wide_site()), "wide.bin", ticks.as_bytes());
+    assert_eq!(said.output.lines().filter(|line| line.starts_with("speeds")).collect::<Vec<&str>>(), SHOWN);
+    ticks
+}
+
 /// A site of one metered and one mainline lane, with buses and no timeout.
 fn narrow_site() -> Site {
     let mut site = site_a();
@@ -151,7 +195,7 @@ fn long_ticks() -> String {
     let line = |i: u32| Line {
         clock: [2024, 2, 29, 36_000 + i],
         lanes: vec![[1, (i % 50 == 20) as u32]],
-        mainline: vec![[1, i % 7, (i % 90 == 0) as u32, if i % 90 == 0 { 80 } else { 0 }]],
+        mainline: vec![[1, i % 7, (i % 90 == 0) as u32, if i % 90 == 0 { 240 + i / 90 } else { 0 }]],
         preemption: (1500..1700).contains(&i) as u32,
         bypass: (i / 100 % 3 == 1) as u32,
         commands: [[0; 3]; 2],
@@ -184,6 +228,7 @@ fn whole_runs() -> Vec<Run> {
         Run::new("wide.bin", "wide.txt", wide_ticks()),
         Run::new("site.bin", "wide.txt", wide_ticks()),
         Run::new("narrow.bin", "long.txt", long_ticks()),
+        Run::new("wide.bin", "speeds.txt", timed_ticks()),
     ]
 }
 
@@ -229,6 +274,7 @@ pub fn list() -> String {
 
 /// What the test program prints: of each run its names, its output and, behind that, what it explains.
 pub fn answers() -> String {
+    speed_text::hold_times();
     let sites = sites();
     // an absent file counts as empty
     let site = |name: &str| sites.iter().find(|(n, _)| *n == name).map_or(&[][..], |(_, file)| file);

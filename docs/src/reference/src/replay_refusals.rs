@@ -49,9 +49,10 @@ fn samples() -> Vec<Run> {
         mainline("site.bin", "working_2.txt", plain, 1, 0, 1),
         mainline("site.bin", "occupied_101.txt", plain, 1, 1, 100),
         mainline("site.bin", "vehicles_2.txt", plain, 1, 2, 1),
-        mainline("site.bin", "speed_251.txt", plain, 1, 3, 250),
         metered("wide.bin", "lane_4_passage_2.txt", wide, 4, 1),
-        mainline("wide.bin", "mainline_lane_6_speed_251.txt", wide, 6, 3, 250),
+        mainline("wide.bin", "mainline_lane_6_vehicles_2.txt", wide, 6, 2, 1),
+        // every time is taken, and one beside a number that is refused is not named
+        run("site.bin", "time_65535.txt", plain, |line| line.mainline[0] = [1, 9, 1, 65535], |line| line.mainline[0] = [1, 101, 1, 65535]),
         preemption("site.bin", "preemption_2.txt", plain, 2),
         preemption("wide.bin", "preemption_65535.txt", wide, 65535),
         bypass("site.bin", "bypass_2.txt", plain, 2),
@@ -89,7 +90,7 @@ fn first_of_many() -> Vec<Run> {
     let all = |line: &mut Line| {
         line.clock = [2024, 2, 30, 864_000];
         line.lanes[1] = [2, 2];
-        line.mainline[0] = [2, 101, 2, 251];
+        line.mainline[0] = [2, 101, 2, 65535];
         (line.preemption, line.bypass) = (2, 2);
         line.commands = [[3, 149, 1], [5, 1, 1]];
     };
@@ -140,11 +141,11 @@ fn first_of_many() -> Vec<Run> {
             }),
         ),
         run("site.bin", "tenth_and_bypass.txt", plain, good, |line| (line.clock[3], line.bypass) = (864_000, 2)),
-        run("wide.bin", "mainline_lane_6_and_bypass.txt", wide, good, |line| (line.mainline[5][3], line.bypass) = (251, 2)),
+        run("wide.bin", "mainline_lane_6_and_bypass.txt", wide, good, |line| (line.mainline[5][2], line.bypass) = (2, 2)),
         run("site.bin", "tenth_and_preemption.txt", plain, good, |line| (line.clock[3], line.preemption) = (864_000, 2)),
-        run("wide.bin", "mainline_lane_6_and_preemption.txt", wide, good, |line| (line.mainline[5][3], line.preemption) = (251, 2)),
+        run("wide.bin", "mainline_lane_6_and_preemption.txt", wide, good, |line| (line.mainline[5][2], line.preemption) = (2, 2)),
         run("wide.bin", "mainline_lanes_3_and_5.txt", wide, good, |line| {
-            line.mainline[2] = [0, 100, 1, 251];
+            line.mainline[2] = [0, 101, 1, 65535];
             line.mainline[4] = [2, 0, 0, 0];
         }),
         run("site.bin", "both_commands.txt", plain, good, |line| line.commands = [[3, 149, 1], [5, 1, 1]]),

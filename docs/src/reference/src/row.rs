@@ -1,5 +1,5 @@
 //! A tick as one row of numbers: year, month, day, the tenth's high and low half; demand and passage of each metered lane; working,
-//! occupied, vehicles and speed of each mainline lane; the calls, which are preemption and bypass; kind, rate and table of the manual
+//! occupied, vehicles and time of each mainline lane; the calls, which are preemption and bypass; kind, rate and table of the manual
 //! command, then of the communications command.
 
 use crate::calendar::{Clock, Date};
@@ -21,7 +21,7 @@ pub fn numbers(input: &Input, n: usize, m: usize) -> Vec<u16> {
     let mut out = vec![date.year, date.month, date.day];
     out.extend(halves(tenth));
     out.extend((0..n).flat_map(|i| [input.demand[i], input.passage[i]]));
-    out.extend(input.mainline[..m].iter().flat_map(|s| [s.working, s.occupied, s.vehicles, s.speed]));
+    out.extend(input.mainline[..m].iter().flat_map(|s| [s.working, s.occupied, s.vehicles, s.time]));
     out.extend([input.preemption, input.bypass]);
     out.extend(input.commands.iter().flat_map(|c| [c.kind, c.rate, c.table]));
     out
@@ -42,7 +42,7 @@ pub fn input(row: &[u16], n: usize, m: usize) -> Input {
         (input.demand[i], input.passage[i]) = (lane[0], lane[1]);
     }
     for (sample, lane) in input.mainline.iter_mut().zip(mainline.chunks(4)) {
-        *sample = Sample { working: lane[0], occupied: lane[1], vehicles: lane[2], speed: lane[3] };
+        *sample = Sample { working: lane[0], occupied: lane[1], vehicles: lane[2], time: lane[3] };
     }
     (input.preemption, input.bypass) = (calls[0], calls[1]);
     for (command, words) in input.commands.iter_mut().zip(commands.chunks(3)) {

@@ -30,10 +30,10 @@ pub fn site() -> Site {
             [1, 1, UNUSED, UNUSED, 1200],
             [1, 2250, UNUSED, UNUSED, 900],
             [1, UNUSED, 470, UNUSED, 720],
-            [1, UNUSED, UNUSED, 118, 600],
+            [1, UNUSED, UNUSED, 32, 600],
             [2, UNUSED, 1, UNUSED, 900],
             [2, 2400, 475, UNUSED, 450],
-            [2, UNUSED, UNUSED, 115, 300],
+            [2, UNUSED, UNUSED, 31, 300],
         ],
     }
 }
@@ -67,7 +67,7 @@ impl Samples {
             working: chance(b >> 20 != j as u32),
             occupied: 3 * of_six(b, j),
             vehicles: chance(of_six(c, j) < 2),
-            speed: 8 * of_six(d, j),
+            time: 40 * of_six(d, j),
         });
         (demand, passage, mainline)
     }
@@ -154,7 +154,7 @@ pub fn print_samples() -> String {
         sum = with_six(sum, mainline.map(|s| s.working));
         sum = with_six(sum, mainline.map(|s| s.occupied));
         sum = with_six(sum, mainline.map(|s| s.vehicles));
-        sum = with_six(sum, mainline.map(|s| s.speed));
+        sum = with_six(sum, mainline.map(|s| s.time));
     }
     format!("samples {sum}\n")
 }

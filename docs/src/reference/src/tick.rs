@@ -1,5 +1,5 @@
-//! The state and one tick of document 01, with the preemption and the bus bypass of document 02: its checks, then counts, what is wanted,
-//! group interval, bypass, lane intervals, release.
+//! The state and one tick of document 01, with the preemption, the bus bypass and the speeds of document 02: its checks, then counts, what
+//! is wanted, group interval, bypass, lane intervals, release.
 
 use crate::bypass::{Bypass, Phase};
 use crate::calendar::{clock_ok, Clock};
@@ -9,8 +9,9 @@ use crate::output;
 use crate::periods::{halves, Periods, Sample};
 use crate::poll;
 use crate::site::{self, Site};
+use crate::speeds::{self, Double, LaneSpeeds};
 use crate::timings::Timings;
-use crate::wanted::{command_ok, cycle, decide, lanes, Command, Decision, Wish};
+use crate::wanted::{command_ok, cycle, decide, lanes, Command, Decision, SpeedTests, Wish};
 
 // The state.
 
@@ -122,8 +123,9 @@ impl Input {
     }
 }
 
+/// A travel time is any two-byte number.
 fn sample_ok(s: &Sample) -> bool {
-    s.working <= 1 && s.occupied <= 100 && s.vehicles <= 1 && s.speed <= 250
+    s.working <= 1 && s.occupied <= 100 && s.vehicles <= 1
 }
 
 /// 9, the other way round: all in range, and lanes beyond n or m are not looked at.
@@ -148,7 +150,7 @@ fn refusal(site: &Site, state: &State, input: &Input) -> u8 {
     }
 }
 
-// Power-up, tick, decision, poll and write. Each takes the site of a record, or none where no file could give the record: 14.
+// Power-up, tick, decision, poll, readings and write. Each takes the site of a record, or none where no file could give the record: 14.
 
 /// The refusal, 0 or 14, and the state; refused, it is all zero.
 pub fn power_up(site: Option<&Site>) -> (u8, State) {
@@ -171,7 +173,9 @@ pub struct Answer {
     pub bypass: Phase,
 }
 
-pub const NOTHING_DECIDED: Decision = Decision { day: None, entry: 0, days_ago: 0, source: "plan", level: 0, wish: Wish::Dark };
+const NO_TESTS: SpeedTests = SpeedTests { met: 0, equal: 0, unmet: 0, unknown: 0 };
+pub const NOTHING_DECIDED: Decision =
+    Decision { day: None, entry: 0, days_ago: 0, source: "plan", level: 0, wish: Wish::Dark, tests: NO_TESTS };
 
 /// The state as it came, and nothing decided.
 fn refused(refusal: u8, indications: Indications, state: &State) -> Answer {
@@ -244,8 +248,8 @@ pub fn decision(site: Option<&Site>, state: &State, clock: Clock, commands: [Com
     Ok(decide(site, clock, commands, &state.periods))
 }
 
-/// The poll record; checks 14, 13, 12.
-pub fn poll_record(site: Option<&Site>, state: &State) -> Result<Vec<u8>, u8> {
+/// The site, where it and the state are in range and a period was completed; checks 14, 13, 12.
+fn completed<'a>(site: Option<&'a Site>, state: &State) -> Result<&'a Site, u8> {
     let site = site.ok_or(14)?;
     if state_spoilt(site, state) {
         return Err(13);
@@ -253,8 +257,19 @@ pub fn poll_record(site: Option<&Site>, state: &State) -> Result<Vec<u8>, u8> {
     if state.periods.serial == 0 {
         return Err(12);
     }
-    let (n, m) = lanes(site);
+    Ok(site)
+}
+
+/// The poll record; checks 14, 13, 12.
+pub fn poll_record(site: Option<&Site>, state: &State) -> Result<Vec<u8>, u8> {
+    let (n, m) = lanes(completed(site, state)?);
     Ok(poll::record(n, m, &state.periods))
+}
+
+/// Each mainline lane's reading, latest and slowest speed of the last completed period; checks 14, 13, 12.
+pub fn readings(site: Option<&Site>, state: &State) -> Result<[LaneSpeeds; 6], u8> {
+    completed(site, state)?;
+    Ok(speeds::of_last(&state.periods))
 }
 
 /// Polls into a buffer; checks 11 last.
@@ -283,19 +298,19 @@ fn group_numbers(state: &State) -> Vec<u16> {
 }
 
 impl State {
-    /// The state in 101 numbers.
+    /// The state in 101 numbers, and its thirty speeds besides.
     pub fn numbers(&self) -> Vec<u32> {
         let wide = |words: Vec<u16>| words.into_iter().map(u32::from);
         let p = &self.periods;
         let mut out: Vec<u32> = wide(group_numbers(self)).collect();
         out.push(p.ticks as u32);
-        out.extend(wide(p.current.short()).chain(p.current.speeds));
+        out.extend(wide(p.current.short()).chain(p.current.millis));
         out.push(p.serial);
-        out.extend(wide(p.last.short()).chain(p.last.speeds));
+        out.extend(wide(p.last.short()).chain(p.last.millis));
         out
     }
 
-    /// The state in 114 two-byte numbers: speed sums and serial are two each, high half first.
+    /// The state in 234 two-byte numbers: sums of milliseconds and the serial are two each, speeds four, the highest first.
     pub fn words(&self) -> Vec<u16> {
         let p = &self.periods;
         let mut out = group_numbers(self);
@@ -303,6 +318,7 @@ impl State {
         out.extend(p.current.words());
         out.extend(halves(p.serial));
         out.extend(p.last.words());
+        out.extend(p.speeds.doubles().into_iter().flat_map(Double::words));
         out
     }
 }

@@ -12,6 +12,7 @@ use crate::random::Random;
 use crate::random_calls::{next_calls, Calls};
 use crate::rate_sheet::nearest;
 use crate::site::{bytes, timing_range, Site, TIMINGS, UNUSED};
+use crate::speeds::LOOPS;
 use crate::tick::{Input, KeptLane, State};
 use crate::wanted::Command;
 
@@ -129,9 +130,9 @@ fn flow_run(m: u16) -> Vec<u8> {
     let input = |vehicles: [u16; 3]| {
         let mut input = in_demand(RESPONSIVE);
         for (sample, vehicle) in input.mainline.iter_mut().zip(vehicles) {
-            *sample = Sample { working: 1, occupied: 40, vehicles: vehicle, speed: 90 };
+            *sample = Sample { working: 1, occupied: 40, vehicles: vehicle, time: 244 };
         }
-        input.mainline[3] = Sample { working: 0, occupied: 100, vehicles: 1, speed: 10 };
+        input.mainline[3] = Sample { working: 0, occupied: 100, vehicles: 1, time: 2196 };
         input
     };
     let period = |last: [u16; 3]| {
@@ -402,7 +403,7 @@ pub fn counted() -> State {
         vehicles: [4, 3, 0, 0, 0, 0],
         occupied: [90, 100, 0, 0, 0, 0],
         timed: [2, 3, 0, 0, 0, 0],
-        speeds: [400, 90, 0, 0, 0, 0],
+        millis: [400, 900, 0, 0, 0, 0],
     };
     state.periods.ticks = 20;
     state.periods.current = counts(20);
@@ -423,11 +424,14 @@ fn counts_at_limits(ticks: u16, put: &mut dyn FnMut(&dyn Fn(&mut Counts))) {
             put(&|c| c.vehicles[j] = ticks + more);
             put(&|c| c.occupied[j] = 100 * ticks + more);
             put(&|c| c.timed[j] = c.vehicles[j] + more);
-            put(&|c| c.speeds[j] = 250 * c.timed[j] as u32 + more as u32);
+            put(&|c| c.millis[j] = 65535 * c.timed[j] as u32 + more as u32);
+            put(&|c| c.millis[j] = c.timed[j] as u32 - more as u32);
         }
     }
-    put(&|c| c.speeds[1] = u32::MAX);
-    put(&|c| (c.timed[0], c.speeds[0]) = (0, 1));
+    put(&|c| c.millis[1] = u32::MAX);
+    put(&|c| (c.timed[0], c.millis[0]) = (0, 1));
+    put(&|c| (c.timed[0], c.millis[0]) = (0, 0));
+    put(&|c| (c.timed[0], c.millis[0]) = (1, 0));
     put(&|c| c.passages[3] = 1);
     put(&|c| c.greens[3] = 1);
     for j in [2, 5] {
@@ -435,10 +439,10 @@ fn counts_at_limits(ticks: u16, put: &mut dyn FnMut(&dyn Fn(&mut Counts))) {
         put(&|c| c.vehicles[j] = 1);
         put(&|c| c.occupied[j] = 1);
         put(&|c| c.timed[j] = 1);
-        put(&|c| c.speeds[j] = 1);
+        put(&|c| c.millis[j] = 1);
     }
     // in range of each other, but beyond m
-    put(&|c| (c.vehicles[2], c.timed[2], c.speeds[2]) = (1, 1, 1));
+    put(&|c| (c.vehicles[2], c.timed[2], c.millis[2]) = (1, 1, 1));
 }
 
 /// States with one number at a limit or beyond it.
@@ -514,7 +518,7 @@ fn states_at_limits() -> Vec<State> {
 
 fn spoilt_states() -> Vec<Vec<u8>> {
     let states = states_at_limits();
-    let ops = |state: &State| [Op::State(*state), Op::Ticks(1, quiet(fixed(900))), DECIDE, POLL];
+    let ops = |state: &State| [Op::State(*state), Op::Ticks(1, quiet(fixed(900))), DECIDE, POLL, Op::Readings];
     let case = |some: &[State]| from_power_up(&bytes(&distinct()), &some.iter().flat_map(ops).collect::<Vec<Op>>());
     states.chunks(100).map(case).collect()
 }
@@ -606,17 +610,18 @@ fn inputs_at_limits() -> Vec<Input> {
         put(&|x| x.mainline[j].working = 2);
         put(&|x| x.mainline[j].occupied = 101);
         put(&|x| x.mainline[j].vehicles = 2);
-        put(&|x| x.mainline[j].speed = 251);
+        // no time is out of range
+        put(&|x| x.mainline[j].time = UNUSED);
     }
     for call in [0, 1, 2, 256, 257, UNUSED] {
         put(&|x| x.preemption = call);
         put(&|x| x.bypass = call);
     }
     for working in [0, 1] {
-        for (occupied, vehicles, speed) in
-            [(100, 1, 250), (100, 0, 250), (0, 1, 0), (101, 1, 250), (0, 2, 0), (0, 0, 251)]
+        for (occupied, vehicles, time) in
+            [(100, 1, UNUSED), (100, 0, UNUSED), (0, 1, 0), (0, 1, 1), (101, 1, 250), (0, 2, 0), (0, 0, 251), (0, 2, UNUSED)]
         {
-            put(&|x| x.mainline[1] = Sample { working, occupied, vehicles, speed });
+            put(&|x| x.mainline[1] = Sample { working, occupied, vehicles, time });
         }
     }
     for which in [0, 1] {
@@ -712,8 +717,11 @@ fn periods() -> Vec<u8> {
         ops.extend([Op::Ticks(300, in_demand(fixed(1500))), POLL]);
     }
     // 14, 13, 12
-    ops.extend([timing(0, 0), POLL, Op::State(fresh(3, 10, 0)), POLL, Op::Repair, POLL]);
-    ops.extend([Op::PowerUp, POLL, Op::State(fresh(2, 7, 0)), POLL]);
+    let asked = [POLL, Op::Readings];
+    for before in [timing(0, 0), Op::State(fresh(3, 10, 0)), Op::Repair, Op::PowerUp, Op::State(fresh(2, 7, 0))] {
+        ops.push(before);
+        ops.extend(asked.clone());
+    }
     from_power_up(&bytes(&distinct()), &ops)
 }
 
@@ -721,30 +729,30 @@ fn periods() -> Vec<u8> {
 fn closing_wish() -> Vec<u8> {
     let mut site = distinct();
     site.levels = vec![[1, UNUSED, 300, UNUSED, 450], [2, UNUSED, UNUSED, 60, 1500], [1, UNUSED, 600, UNUSED, 900]];
-    let input = |occupied, speed, table| {
+    let input = |occupied, time, table| {
         let mut input = in_demand(Command { kind: 4, rate: 777, table });
-        input.mainline = [Sample { working: 1, occupied, vehicles: 1, speed }; 6];
+        input.mainline = [Sample { working: 1, occupied, vehicles: 1, time }; 6];
         input
     };
-    let mut failed = input(90, 20, 1);
+    let mut failed = input(90, 1098, 1);
     failed.mainline[0].working = 0;
     let mut all_failed = failed;
     all_failed.mainline[1].working = 0;
     let ops = [
-        Op::Ticks(299, input(29, 61, 1)),
-        Op::Ticks(1, input(100, 61, 1)),
+        Op::Ticks(299, input(29, 365, 1)),
+        Op::Ticks(1, input(100, 365, 1)),
         POLL,
-        Op::Ticks(300, input(30, 60, 1)),
+        Op::Ticks(300, input(30, 366, 1)),
         POLL,
-        Op::Ticks(1, input(60, 60, 2)),
-        Op::Ticks(298, input(60, 60, 1)),
-        Op::Ticks(2, input(60, 60, 1)),
+        Op::Ticks(1, input(60, 366, 2)),
+        Op::Ticks(298, input(60, 366, 1)),
+        Op::Ticks(2, input(60, 366, 1)),
         Op::Ticks(298, failed),
         Op::Ticks(1, failed),
         Op::Ticks(1, all_failed),
-        Op::Ticks(299, input(1, 90, 2)),
+        Op::Ticks(299, input(1, 244, 2)),
         POLL,
-        Op::Ticks(300, input(1, 90, 2)),
+        Op::Ticks(300, input(1, 244, 2)),
         POLL,
     ];
     from_power_up(&bytes(&site), &ops)
@@ -769,6 +777,10 @@ fn cut_operations() -> Vec<Vec<u8>> {
         cut(Op::Ticks(2, quiet(GREEN)), 2),
         cut(Op::State(fresh(2, 7, 0)), 2),
         cut(Op::State(fresh(2, 7, 0)), 1),
+        // without its speeds, and with all but the last
+        cut(Op::State(fresh(2, 7, 0)), 240),
+        cut(Op::State(fresh(2, 7, 0)), 8),
+        cut(Op::Readings, 1),
         cut(POLL, 1),
         cut(Op::PowerUp, 2),
     ]
@@ -811,7 +823,15 @@ pub struct Setting {
     /// Percent.
     failing: u64,
     demand: u64,
+    /// The travel times of most vehicles, and whether some take the least or the most time.
+    times: (u16, u16),
+    edges: bool,
+    /// Of each mainline lane, how many of a thousand vehicles are timed: most, hardly one in a period, or none.
+    timed: [u64; 6],
 }
+
+/// From fast traffic to slow: a threshold of 1 to 250 km/h is met by about every other one.
+const TIMES: [(u16, u16); 7] = [(88, 120), (88, 120), (100, 180), (130, 300), (200, 700), (700, 2500), (2000, 20_000)];
 
 pub fn setting(r: &mut Random, timings: impl Fn(&mut Random) -> Vec<u16>) -> Setting {
     let (starts, tables) = (cases::starts(r), r.number(1, 4));
@@ -822,8 +842,26 @@ pub fn setting(r: &mut Random, timings: impl Fn(&mut Random) -> Vec<u16>) -> Set
     let timings = timings(r);
     let entries = cases::entries(r, &starts, tables);
     let holidays = cases::holidays(r, date);
-    let site = Site { timings, entries, holidays, levels: levels(r, tables) };
-    Setting { site, starts, dates, tables, failing: r.pick(&[0, 0, 1, 10]), demand: r.pick(&[50, 80, 80, 95]) }
+    let mut site = Site { timings, entries, holidays, levels: levels(r, tables) };
+    let (failing, demand) = (r.pick(&[0, 0, 1, 10]), r.pick(&[50, 80, 80, 95]));
+    let (mut times, mut edges) = (r.pick(&TIMES), r.percent(15));
+    if r.percent(20) {
+        (times, edges) = (one_speed(r, &mut site), false);
+    }
+    let timed = [0; 6].map(|_| r.pick(&[750, 750, 750, 750, 750, 750, 750, 3, 3, 0]));
+    Setting { site, starts, dates, tables, failing, demand, times, edges, timed }
+}
+
+/// All vehicles at one whole speed, which is often a level's threshold, or right beside it; gives their times.
+fn one_speed(r: &mut Random, site: &mut Site) -> (u16, u16) {
+    let speed = r.pick(&cases::WHOLE_SPEEDS);
+    for level in site.levels.iter_mut().filter(|level| level[3] != UNUSED) {
+        if r.percent(60) {
+            level[3] = (speed + r.pick(&[0, 0, 1, 2])).saturating_sub(r.pick(&[0, 0, 0, 1])).max(1);
+        }
+    }
+    let time = (LOOPS / speed as u64) as u16;
+    (time, time)
 }
 
 /// Mostly to meter, often at a high rate.
@@ -847,13 +885,24 @@ fn metered(r: &mut Random, n: usize, chance: u64) -> [u16; 4] {
     row
 }
 
-fn sample(r: &mut Random, s: &Setting, count: u16) -> Sample {
+/// Of a vehicle on mainline lane j, from 0.
+fn travel_time(r: &mut Random, s: &Setting, j: usize) -> u16 {
+    if r.from(1, 1000) > s.timed[j] {
+        return 0;
+    }
+    if s.edges && r.percent(2) {
+        return r.pick(&[1, 1, 2, 65534, UNUSED, UNUSED]);
+    }
+    r.number(s.times.0, s.times.1)
+}
+
+fn sample(r: &mut Random, s: &Setting, count: u16, j: usize) -> Sample {
     let passing = if count <= 5 { 60 } else { 5 };
     Sample {
         working: !r.percent(s.failing) as u16,
         occupied: r.edged(0, 100),
         vehicles: r.percent(passing) as u16,
-        speed: if r.percent(70) { r.edged(0, 250) } else { 0 },
+        time: travel_time(r, s, j),
     }
 }
 
@@ -879,23 +928,22 @@ pub fn samples(r: &mut Random, s: &Setting, count: u16, input: &mut Input) {
     let (n, m) = (s.site.timings[0] as usize, s.site.timings[14] as usize);
     input.demand = metered(r, n, s.demand);
     input.passage = metered(r, n, 35);
-    input.mainline = [Sample::default(); 6].map(|_| sample(r, s, count));
+    input.mainline = [0, 1, 2, 3, 4, 5].map(|j| sample(r, s, count, j));
     if m < 6 && r.percent(5) {
-        input.mainline[5] = Sample { working: 2, occupied: 101, vehicles: 2, speed: 251 };
+        input.mainline[5] = Sample { working: 2, occupied: 101, vehicles: 2, time: UNUSED };
     }
 }
 
 fn damage_sample(r: &mut Random, s: &Setting, input: &mut Input) {
     let (n, m) = (s.site.timings[0], s.site.timings[14]);
     let (i, j) = (r.number(0, n - 1) as usize, r.number(0, m - 1) as usize);
-    match r.from(0, 7) {
+    match r.from(0, 6) {
         0 => input.demand[i] = r.pick(&[2, UNUSED]),
         1 => input.passage[i] = r.pick(&[2, 256]),
         2 => input.mainline[j].working = r.pick(&[2, 257]),
         3 => input.mainline[j].occupied = r.pick(&[101, UNUSED]),
         4 => input.mainline[j].vehicles = r.pick(&[2, UNUSED]),
-        5 => input.mainline[j].speed = r.pick(&[251, UNUSED]),
-        6 => input.preemption = r.pick(&[2, 257, UNUSED]),
+        5 => input.preemption = r.pick(&[2, 257, UNUSED]),
         _ => input.bypass = r.pick(&[2, 257, UNUSED]),
     }
 }
@@ -940,7 +988,7 @@ fn interruption(r: &mut Random, s: &Setting, input: &Input, ops: &mut Vec<Op>) {
             let value = r.number(TIMINGS[i].0, TIMINGS[i].1.min(TIMINGS[i].0 + 30));
             ops.extend([timing(i, value), Op::Ticks(r.number(1, 40), bad), Op::Repair]);
         }
-        8..=11 => ops.push(POLL),
+        8..=11 => ops.extend([POLL, Op::Readings]),
         12 if r.percent(40) => ops.push(Op::PowerUp),
         _ => {}
     }
@@ -965,7 +1013,7 @@ pub fn random_run(r: &mut Random, s: &Setting) -> Vec<u8> {
         ops.push(Op::Ticks(count, input));
         input.clock = after(r, s, input.clock, count);
     }
-    ops.push(POLL);
+    ops.extend([POLL, Op::Readings]);
     from_power_up(&bytes(&s.site), &ops)
 }
 
@@ -1026,6 +1074,9 @@ pub fn strange_state(r: &mut Random, t: &[u16], cycle: u16) -> State {
         state.periods = cases::periods(r, n, m);
     } else {
         state.periods.ticks = r.pick(&[0, 1, 298, 299]);
+        if r.percent(30) {
+            state.periods.speeds = cases::speeds(r, m);
+        }
     }
     state
 }
@@ -1046,6 +1097,9 @@ pub fn strange_states(r: &mut Random, s: &Setting) -> Vec<u8> {
             input.demand[..t[0] as usize].fill(1);
         }
         ops.push(Op::Ticks(count, input));
+        if r.percent(40) {
+            ops.push(Op::Readings);
+        }
     }
     from_power_up(&bytes(&s.site), &ops)
 }

@@ -37,7 +37,8 @@ fn samples(input: &Input, (n, m): (usize, usize)) -> Vec<Number> {
         }
     }
     for (j, s) in input.mainline[..m].iter().enumerate() {
-        let numbers = [("working", s.working, 1), ("occupied", s.occupied, 100), ("vehicles", s.vehicles, 1), ("speed", s.speed, 250)];
+        // every time is in range
+        let numbers = [("working", s.working, 1), ("occupied", s.occupied, 100), ("vehicles", s.vehicles, 1), ("time", s.time, 65535)];
         for (name, value, most) in numbers {
             out.push(number(&format!("mainline lane {}, {name}", j + 1), value as u32, (0, most)));
         }

@@ -1,9 +1,11 @@
-//! 'Day and entry' and 'What is wanted' of document 01, with plans that run past midnight by document 02; and the cycle, to the nearest
-//! tick by document 02.
+//! 'Day and entry' and 'What is wanted' of document 01, with plans that run past midnight and levels tested by speeds from loop pairs by
+//! document 02; and the cycle, to the nearest tick by document 02.
 
 use crate::calendar::{day_type, days_back, Clock};
 use crate::periods::{Counts, Periods};
 use crate::site::{rate_ok, table_ok, Site, UNUSED};
+use crate::speeds::LOOPS;
+use std::cmp::Ordering;
 
 #[derive(Clone, Copy, Debug, Default)]
 pub struct Command {
@@ -32,14 +34,47 @@ pub struct Decision {
     /// The level's place in the file from 1, 0 for none.
     pub level: usize,
     pub wish: Wish,
+    pub tests: SpeedTests,
 }
 
-/// The measures over the good lanes; the mean speed only where a vehicle had one.
+/// The measures over the good lanes.
 #[derive(Clone, Copy, Debug)]
 pub struct Measures {
     pub flow: u64,
     pub occupancy: u64,
-    pub speed: Option<u64>,
+    pub timed: Timed,
+}
+
+/// Vehicles that were timed, and their milliseconds in all.
+#[derive(Clone, Copy, Debug)]
+pub struct Timed {
+    pub vehicles: u64,
+    pub millis: u64,
+}
+
+impl Timed {
+    /// How the speed, 21960 × vehicles ÷ milliseconds, stands to a threshold; nothing where no vehicle was timed.
+    fn against(self, threshold: u16) -> Option<Ordering> {
+        match self.vehicles {
+            0 => None,
+            vehicles => Some((LOOPS * vehicles).cmp(&(threshold as u64 * self.millis))),
+        }
+    }
+
+    /// The speed rounded down.
+    pub fn whole(self) -> Option<u64> {
+        (LOOPS * self.vehicles).checked_div(self.millis)
+    }
+}
+
+/// How many levels of the table that is asked have a speed threshold in use that is met, met and equal to the speed, not met, or without a
+/// speed to test.
+#[derive(Clone, Copy, Debug, Default)]
+pub struct SpeedTests {
+    pub met: u64,
+    pub equal: u64,
+    pub unmet: u64,
+    pub unknown: u64,
 }
 
 pub fn lanes(site: &Site) -> (usize, usize) {
@@ -104,43 +139,63 @@ pub fn measures(c: &Counts, m: usize) -> Option<Measures> {
     let vehicles: u64 = good.iter().map(|j| c.vehicles[*j] as u64).sum();
     let occupied: u64 = good.iter().map(|j| c.occupied[*j] as u64).sum();
     let timed: u64 = good.iter().map(|j| c.timed[*j] as u64).sum();
-    let speeds: u64 = good.iter().map(|j| c.speeds[*j] as u64).sum();
+    let millis: u64 = good.iter().map(|j| c.millis[*j] as u64).sum();
     Some(Measures {
         flow: vehicles * 120 / lanes,
         occupancy: occupied / (30 * lanes),
-        speed: if timed == 0 { None } else { Some(speeds / timed) },
+        timed: Timed { vehicles: timed, millis },
     })
 }
 
 fn met(level: &[u16; 5], x: Measures) -> bool {
     let [_, flow, occupancy, speed, _] = *level;
-    let slow = |known: u64| speed != UNUSED && known <= speed as u64;
+    let slow = speed != UNUSED && x.timed.against(speed).is_some_and(Ordering::is_le);
     (flow != UNUSED && x.flow >= flow as u64)
         || (occupancy != UNUSED && x.occupancy >= occupancy as u64)
-        || x.speed.is_some_and(slow)
+        || slow
 }
 
-/// The wish of a responsive one, with the place of the level that decided.
-fn responsive(site: &Site, rate: u16, table: u16, p: &Periods) -> (usize, Wish) {
+fn speed_tests<'a>(levels: impl Iterator<Item = &'a [u16; 5]>, x: Measures) -> SpeedTests {
+    let mut tests = SpeedTests::default();
+    for [_, _, _, speed, _] in levels.filter(|level| level[3] != UNUSED) {
+        let test = x.timed.against(*speed);
+        tests.met += test.is_some_and(Ordering::is_le) as u64;
+        tests.equal += test.is_some_and(Ordering::is_eq) as u64;
+        tests.unmet += test.is_some_and(Ordering::is_gt) as u64;
+        tests.unknown += test.is_none() as u64;
+    }
+    tests
+}
+
+/// A wish, with the place of the level that decided, and how speeds stood to thresholds.
+type Wished = (usize, Wish, SpeedTests);
+
+fn plainly(wish: Wish) -> Wished {
+    (0, wish, SpeedTests::default())
+}
+
+/// The wish of a responsive one.
+fn responsive(site: &Site, rate: u16, table: u16, p: &Periods) -> Wished {
     if p.serial == 0 {
-        return (0, Wish::Clear);
+        return plainly(Wish::Clear);
     }
     let Some(x) = measures(&p.last, lanes(site).1) else {
-        return (0, Wish::Metering(rate));
+        return plainly(Wish::Metering(rate));
     };
-    let those_met = site.levels.iter().enumerate().filter(|(_, l)| l[0] == table && met(l, x));
-    match those_met.last() {
-        Some((i, l)) => (i + 1, Wish::Metering(l[4])),
-        None => (0, Wish::Clear),
+    let asked = || site.levels.iter().enumerate().filter(|(_, level)| level[0] == table);
+    let tests = speed_tests(asked().map(|(_, level)| level), x);
+    match asked().filter(|(_, level)| met(level, x)).last() {
+        Some((i, level)) => (i + 1, Wish::Metering(level[4]), tests),
+        None => (0, Wish::Clear, tests),
     }
 }
 
 /// The wish of an entry's mode.
-fn wish(site: &Site, mode: u16, rate: u16, table: u16, p: &Periods) -> (usize, Wish) {
+fn wish(site: &Site, mode: u16, rate: u16, table: u16, p: &Periods) -> Wished {
     match mode {
-        0 => (0, Wish::Dark),
-        1 => (0, Wish::Green),
-        2 => (0, Wish::Metering(rate)),
+        0 => plainly(Wish::Dark),
+        1 => plainly(Wish::Green),
+        2 => plainly(Wish::Metering(rate)),
         _ => responsive(site, rate, table, p),
     }
 }
@@ -150,13 +205,13 @@ pub fn decide(site: &Site, clock: Clock, commands: [Command; 2], p: &Periods) ->
     let day = day_type(clock.date, &site.holidays);
     let (entry, days_ago) = entry_in_force(site, clock, day).unwrap_or((0, 0));
     let ruling = ["manual", "centre"].into_iter().zip(commands).find(|(_, c)| c.kind != 0);
-    let (source, (level, wish)) = match ruling {
+    let (source, (level, wish, tests)) = match ruling {
         Some((source, c)) => (source, wish(site, c.kind - 1, c.rate, c.table, p)),
-        None if entry == 0 => ("plan", (0, Wish::Dark)),
+        None if entry == 0 => ("plan", plainly(Wish::Dark)),
         None => {
             let [_, _, mode, rate, table] = site.entries[entry - 1];
             ("plan", wish(site, mode, rate, table, p))
         }
     };
-    Decision { day: Some(day), entry, days_ago, source, level, wish }
+    Decision { day: Some(day), entry, days_ago, source, level, wish, tests }
 }

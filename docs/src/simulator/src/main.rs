@@ -1,4 +1,4 @@
-//! A ramp meter by documents 01 and 02 (requests A1 to A7): `simulator SITE < RECORDS`.
+//! A ramp meter by documents 01 and 02 (requests A1 to A8): `simulator SITE < RECORDS`.
 //!
 //! It reads a site file, and from standard input the tick records of a run from power-up. Of each accepted tick it writes a byte for each
 //! metered lane, 0 dark, 1 red, 2 yellow or 3 green, and then the sign's, 1 on or 0 off. It stops at the first refusal. At the end

@@ -1,9 +1,11 @@
 //! The mainline's counts: periods of 300 ticks, and what a completed one measured. What the poll record alone asks for, passages and greens
-//! begun, is not counted here.
+//! begun, is not counted here, nor is what the readings alone ask for: the latest and slowest speeds, and those of a lane that is not good.
 
 /// A period's ticks.
 const TICKS: u16 = 300;
 pub const MAINLINE_LANES: usize = 6;
+/// The two loops of a lane are 6.1 m apart: in km/h, the speed of a vehicle that takes a millisecond.
+const LOOPS: u32 = 21960;
 
 /// One mainline lane at one tick, in range.
 #[derive(Clone, Copy, Default)]
@@ -12,8 +14,8 @@ pub struct Sample {
     /// Milliseconds of the tick, 0-100.
     pub occupied: u8,
     pub vehicle: bool,
-    /// Of the vehicle, 0-250; 0 for none.
-    pub speed: u8,
+    /// Milliseconds from loop to loop, of the vehicle; 0 for none.
+    pub time: u16,
 }
 
 /// A mainline lane's counts in the open period.
@@ -24,9 +26,9 @@ struct Counts {
     vehicles: u16,
     /// Milliseconds.
     occupied: u16,
-    /// Vehicles that had a speed, and the sum of their speeds.
+    /// Vehicles that were timed, and their milliseconds in all.
     timed: u16,
-    speeds: u32,
+    millis: u32,
 }
 
 impl Counts {
@@ -36,23 +38,23 @@ impl Counts {
             self.failed = true;
             return;
         }
-        // a speed without a vehicle is ignored
-        let speed = if sample.vehicle { sample.speed } else { 0 };
+        // a time without a vehicle is ignored
+        let time = if sample.vehicle { sample.time } else { 0 };
         self.vehicles += sample.vehicle as u16;
         self.occupied += sample.occupied as u16;
-        self.timed += (speed != 0) as u16;
-        self.speeds += speed as u32;
+        self.timed += (time != 0) as u16;
+        self.millis += time as u32;
     }
 }
 
-/// Over the good lanes, all rounded down.
+/// Over the good lanes; flow and occupancy rounded down.
 pub struct Measures {
     /// Vehicles an hour per lane.
     pub flow: u16,
     /// Tenths of a percent.
     pub occupancy: u16,
-    /// Mean of the vehicles that had a speed.
-    pub speed: Option<u16>,
+    /// In km/h, where a vehicle was timed.
+    pub speed: Option<f64>,
 }
 
 /// The last completed period.
@@ -64,13 +66,13 @@ pub enum Completed {
 
 impl Completed {
     fn of(lanes: &[Counts]) -> Completed {
-        let (mut good, mut vehicles, mut occupied, mut timed, mut speeds) = (0, 0, 0, 0, 0);
+        let (mut good, mut vehicles, mut occupied, mut timed, mut millis) = (0, 0, 0, 0, 0);
         for lane in lanes.iter().filter(|lane| !lane.failed) {
             good += 1;
             vehicles += lane.vehicles as u32;
             occupied += lane.occupied as u32;
             timed += lane.timed as u32;
-            speeds += lane.speeds;
+            millis += lane.millis;
         }
         if good == 0 {
             return Completed::NoGoodLane;
@@ -78,7 +80,7 @@ impl Completed {
         Completed::Measured(Measures {
             flow: (vehicles * 120 / good) as u16,
             occupancy: (occupied / (30 * good)) as u16,
-            speed: speeds.checked_div(timed).map(|mean| mean as u16),
+            speed: if timed == 0 { None } else { Some((LOOPS * timed) as f64 / millis as f64) },
         })
     }
 }

@@ -80,11 +80,11 @@ fn bit(number: u16) -> Result<bool, u8> {
 }
 
 fn parse_sample(row: &[u8; 8]) -> Result<Sample, u8> {
-    let [working, occupied, vehicles, speed] = std::array::from_fn(|i| number(row, i));
-    if working > 1 || occupied > 100 || vehicles > 1 || speed > 250 {
+    let [working, occupied, vehicles, time] = std::array::from_fn(|i| number(row, i));
+    if working > 1 || occupied > 100 || vehicles > 1 {
         return Err(BAD_SAMPLE);
     }
-    Ok(Sample { working: working != 0, occupied: occupied as u8, vehicle: vehicles != 0, speed: speed as u8 })
+    Ok(Sample { working: working != 0, occupied: occupied as u8, vehicle: vehicles != 0, time })
 }
 
 fn parse_command(row: &[u8; 6]) -> Result<Option<Order>, u8> {

@@ -49,11 +49,11 @@ pub struct Level {
 }
 
 impl Level {
-    /// Flow or occupancy at or above a threshold in use, or a known mean speed at or below.
+    /// Flow or occupancy at or above a threshold in use, or a known speed at or below.
     fn is_met(&self, measures: &Measures) -> bool {
         self.flow.is_some_and(|flow| measures.flow >= flow)
             || self.occupancy.is_some_and(|occupancy| measures.occupancy >= occupancy)
-            || self.speed.is_some_and(|speed| measures.speed.is_some_and(|mean| mean <= speed))
+            || self.speed.is_some_and(|speed| measures.speed.is_some_and(|known| known <= speed as f64))
     }
 }
 

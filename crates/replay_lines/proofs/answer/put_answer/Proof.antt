@@ -1,4 +1,4 @@
--- The tick's line, then the poll's where the definition has one.
+-- The tick's line, then the poll's and the readings' where the definition has them.
 use borrow.Author.Tests.{not-true, not-false}
 use mathlib.Core.List.{append-nil}
 use Rattle.text.proofs.PutLaws.{put-then}
@@ -37,17 +37,22 @@ returns c =
 put-poll-requires : tie.Need-put-poll-requires
 put-poll-requires c κs = search needs
 
+put-speeds-requires : tie.Need-put-speeds-requires
+put-speeds-requires c κs = search needs
+
 same-length-2 : tie.Need-same-length-2
 same-length-2 c = search needs
 
 returns-2 : tie.Need-returns-2
 unfolding answerText
 returns-2 c =
-    let q = c .before .before in
+    let s = c .before .before in
+    let q = s .before .before .before .before in
     let d = q .before .before .before in
     let p = d .before .before .before .before in (
       rw (← d .before .completes .ensures, not-false (d .before .completes .result) (d .if1 .left))
-          (put-then (search needs) (rw (p .before .shape-of .ensures) at (p .put-tick .ensures .0)) (λ _. q .put-poll .ensures)),
+          (put-then (search needs) (rw (p .before .shape-of .ensures) at (p .put-tick .ensures .0))
+          (λ l. put-then l (q .put-poll .ensures) (λ _. s .put-speeds .ensures))),
       answer-short p,
     )
 
@@ -61,5 +66,6 @@ put-answer-spec =
     same-length
     returns
     put-poll-requires
+    put-speeds-requires
     same-length-2
     returns-2)

@@ -17,7 +17,7 @@ measured-choice-requires c κs = search needs
 
 returns-2 : tie.Need-returns-2
 unfolding responsiveChoice
-returns-2 c = rw (ne-eqb _ _ (c .before .before .before .if1 .left), ← c .before .measured-on .ensures) (c .measured-choice .ensures)
+returns-2 c = rw (ne-eqb _ _ (c .before .before .before .if1 .left), ← c .before .measured-on .ensures .0) (c .measured-choice .ensures)
 
 pub responsive-choice-spec : {M : Type 1} → statement M
 responsive-choice-spec =

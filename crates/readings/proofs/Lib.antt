@@ -1,0 +1,3 @@
+pub mod TimesLaws
+pub mod WordsLaws
+pub mod NearLaws

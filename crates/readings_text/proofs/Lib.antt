@@ -1,0 +1,2 @@
+pub mod LanesLaws
+pub mod LengthLaws

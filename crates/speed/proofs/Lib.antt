@@ -1,0 +1,3 @@
+pub mod SpeedLaws
+pub mod TenthsLaws
+pub mod SlowerLaws
