@@ -52,7 +52,7 @@ pub fn decide(site: Site, state: State, clock: Clock, manual: Command, centre: C
     ensures is { λ r. ⌜ r ≡ decidedOf site state clock manual centre ⌝ }
     ensures day { λ r. ⌜ (r .refusal ≡ 0 → Typed (clock .date) (site .dates) (site .holidays) (r .decision .day)) ⌝ }
     ensures entry { λ r. ⌜ (r .refusal ≡ 0 → EntryInForce site clock (r .decision .entry)) ⌝ }
-    ensures levelled { λ r. ⌜ (r .refusal ≡ 0 → Levelled site (commandInForce site clock manual centre) (state .periods) (r .decision .level)) ⌝ }
+    ensures levelled { λ r. ⌜ (r .refusal ≡ 0 → Levelled site (commandInForce site clock manual centre) (state .periods) (r .decision .level) (r .decision .wish)) ⌝ }
 {
     let refusal = refusal_of(site, state, clock, manual, centre);
     if refusal != 0 {

@@ -67,7 +67,7 @@ module _ (c : Counts) (n m ticks : ℕ) (few : ticks ≤ 300) (lanes : m ≤ 6) 
   unfolding measuredOf measuresOf
   of-speed P law =
       by-test (eqb (totalsOf c m .lanes) 0) (λ q. rw q tt)
-      (λ q. rw q (λ k. rw k (law (totalsOf c m .timed) (totalsOf c m .millis) (totals-timed k))))
+      (λ q. rw q (λ some. let k = lt-ltb 0 (totalsOf c m .timed) some in rw k (law (totalsOf c m .timed) (totalsOf c m .millis) (totals-timed k))))
 
   pub near : OfSpeed SpeedNear (totalsOf c m) (measuredOf c m)
   near = of-speed SpeedNear speed-near
@@ -84,7 +84,7 @@ module _ (c : Counts) (n m ticks : ℕ) (few : ticks ≤ 300) (lanes : m ≤ 6) 
       (λ k. rw k)
 
   pub by-counts : (l : Level) (table : ℕ) → decides l table (measuresOf (totalsOf c m)) ≡ decidesByCounts l table (totalsOf c m)
-  unfolding decides isMet decidesByCounts metByCounts
+  unfolding decides isMet decidesByCounts metByCounts measuresOf
   by-counts l table = rw (slow-by-counts (l .speed))
 
 -- What the call promises of its answer.

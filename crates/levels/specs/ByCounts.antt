@@ -6,7 +6,7 @@ use lib.Dec.{ltb, leb, eqb}
 use Rattle.ranges.specs.Ranges.{unused}
 use Rattle.levels.specs.declared.Level.{Level}
 use Rattle.levels.specs.declared.measure.Totals.{Totals}
-use Rattle.levels.specs.Measures.{measuresOf}
+use Rattle.levels.specs.Measures.{flowOver, occupancyOver}
 use Rattle.levels.specs.Levels.{reachesOf}
 
 -- A speed threshold in use is met by the good lanes' totals: vehicles were timed, and 21960 × them is at most the threshold × their
@@ -17,7 +17,7 @@ slowByCounts threshold t = not (eqb threshold unused) && (ltb 0 (t .timed) && le
 -- A level is met; flow and occupancy are whole numbers as they are.
 unfoldable pub metByCounts : Level → Totals → Bool
 metByCounts l t =
-    reachesOf (l .flow) (measuresOf t .flow) || (reachesOf (l .occupancy) (measuresOf t .occupancy) || slowByCounts (l .speed) t)
+    reachesOf (l .flow) (flowOver t) || (reachesOf (l .occupancy) (occupancyOver t) || slowByCounts (l .speed) t)
 
 -- A level of the table asked for that is met.
 unfoldable pub decidesByCounts : Level → ℕ → Totals → Bool

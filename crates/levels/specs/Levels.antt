@@ -1,5 +1,6 @@
 -- Document 01, 'What is wanted': "The level of its table listed last among those met decides." "A level is met if flow or occupancy is at
--- or above, or a known mean speed at or below, a threshold in use."
+-- or above, or a known mean speed at or below, a threshold in use." Document 02, A8: the speed is no mean of speeds any more, and is not
+-- rounded.
 use Prim.Native.Nat.{ℕ, zero, suc, _+_, _*_, _<_}
 use mathlib.Core.Path.{_≡_}
 use mathlib.Core.Bool.{Bool, true, false, cond, not, _&&_, _||_}
@@ -30,7 +31,7 @@ levelOf rows i =
 unfoldable pub reachesOf : ℕ → ℕ → Bool
 reachesOf threshold measure = not (eqb threshold unused) && leb threshold measure
 
--- "A known mean speed at or below", "no longer rounded down" (document 02, A8).
+-- "A known .. speed at or below", "no longer rounded down" (document 02, A8).
 unfoldable pub isSlow : ℕ → Bool → Float → Bool
 isSlow threshold known speed = not (eqb threshold unused) && (known && atMost speed threshold)
 

@@ -1,5 +1,5 @@
 -- Document 01, 'What is wanted': what a period's counts measure "over good lanes".
-use Prim.Native.Nat.{ℕ, zero, suc, _+_, _*_, _/_}
+use Prim.Native.Nat.{ℕ, zero, suc, _+_, _*_, _/_, _≤_}
 use mathlib.Core.Path.{_≡_}
 use mathlib.Core.Bool.{true, cond}
 use lib.Dec.{ltb, eqb}
@@ -30,10 +30,16 @@ totalsOf c m = record {
 
 -- "Rounded down: flow = vehicles × 120 ÷ lanes; occupancy = occupied ms ÷ (30 × lanes)." Document 02, A8: "Levels use the speed over all
 -- good lanes, no longer rounded down; a carried-over speed never enters it." Without a timed vehicle it is not known, and 0.
+abbrev pub flowOver : Totals → ℕ
+flowOver t = t .vehicles * 120 / t .lanes
+
+abbrev pub occupancyOver : Totals → ℕ
+occupancyOver t = t .occupied / (30 * t .lanes)
+
 unfoldable pub measuresOf : Totals → Measures
 measuresOf t = record {
-  flow = t .vehicles * 120 / t .lanes;
-  occupancy = t .occupied / (30 * t .lanes);
+  flow = flowOver t;
+  occupancy = occupancyOver t;
   known = ltb 0 (t .timed);
   speed = cond (ltb 0 (t .timed)) (speedOf (t .timed) (t .millis)) noSpeed;
 }
@@ -45,4 +51,4 @@ measuredOf c m = cond (eqb (totalsOf c m .lanes) 0) NoGoodLane (Over (measuresOf
 -- Where a vehicle was timed on a good lane, something holds of the speed, the vehicles timed and their milliseconds.
 abbrev pub OfSpeed : (Float → ℕ → ℕ → Type 0) → Totals → Measured → Type 0
 OfSpeed holds t NoGoodLane = Unit {0}
-OfSpeed holds t (Over q) = q .known ≡ true → holds (q .speed) (t .timed) (t .millis)
+OfSpeed holds t (Over q) = 1 ≤ t .timed → holds (q .speed) (t .timed) (t .millis)

@@ -70,7 +70,7 @@ sample-good s e =
     record { working = ltb-false 1 (s .working) (a .0); occupied = ltb-false 100 (s .occupied) (b .0); vehicles = ltb-false 1 (s .vehicles) (d .0); time = ltb-false 65535 (s .time) (d .1) }
 
 -- What is not 0 is at least 1.
-at-least-one : (k : ℕ) → (k ≡ 0 → ⊥) → 1 ≤ k
+pub at-least-one : (k : ℕ) → (k ≡ 0 → ⊥) → 1 ≤ k
 at-least-one zero f = absurd (f refl)
 at-least-one (suc k) f = omega arith
 

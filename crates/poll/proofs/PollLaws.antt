@@ -1,7 +1,7 @@
 -- How long the record is, what its four parts leave that are stored one behind the other, and what it tells that no check refuses.
 use Prim.Native.Nat.{ℕ, _+_, _*_, _/_, _%_}
 use mathlib.Core.Path.{_≡_, refl, ap, sym, _∙_}
-use mathlib.Core.Bool.{Bool, true, false}
+use mathlib.Core.Bool.{true, false}
 use mathlib.Core.List.{List, [], _∷_, _++_}
 use native.Mathlib.Omega.{arith}
 use lib.ListN.{length, length-append}
@@ -11,8 +11,11 @@ use Rattle.numbers.proofs.StoreLaws.{bytes-append}
 use Rattle.output.proofs.SetsLaws.{sets-append}
 use Rattle.site.specs.declared.Site.{Site}
 use Rattle.site.specs.Record.{spoiltSite}
+use Rattle.site.specs.Named.{shapeOf}
 use Rattle.period.specs.declared.Periods.{Periods}
 use Rattle.state.specs.declared.State.{State}
+use Rattle.state.specs.State.{stateSpoilt}
+use Rattle.loops.proofs.Cases.{by-test}
 use Rattle.poll.specs.Poll.{meteredRow, mainlineRow, rowsFrom, pollWords, refusalOf}
 use Rattle.poll.proofs.RowLaws.{length-rows}
 
@@ -49,11 +52,12 @@ module _ (p : Periods) (n m : ℕ) where
       ∙ sets-append o 0 6 (bytes head) (bytes metered ++ (bytes (m ∷ []) ++ bytes mainline)) refl
       ∙ ap (sets o 0) (sym is-parts)
 
--- A poll that no check refuses has a site that is not spoilt.
-site-case : (x : Site) (s : State) (a : Bool) → spoiltSite x ≡ a → refusalOf x s ≡ 0 → spoiltSite x ≡ false
-unfolding refusalOf
-site-case x s true e h = let y = rw e at h in absurd (omega arith)
-site-case x s false e h = e
-
+-- A poll that no check refuses has a site that is not spoilt, and a state in range.
 pub site-sound : (x : Site) (s : State) → refusalOf x s ≡ 0 → spoiltSite x ≡ false
-site-sound x s h = site-case x s _ refl h
+unfolding refusalOf
+site-sound x s h = by-test (spoiltSite x) (λ a. let z = rw a at h in absurd (omega arith)) (λ a. a)
+
+pub state-sound : (x : Site) (s : State) → refusalOf x s ≡ 0 → stateSpoilt s (shapeOf x) ≡ false
+unfolding refusalOf
+state-sound x s h =
+    by-test (stateSpoilt s (shapeOf x)) (λ b. let z = rw (site-sound x s h, b) at h in absurd (omega arith)) (λ b. b)

@@ -1,8 +1,7 @@
 -- The speed of a lane that is measured is near its exact value, since a state in range has timed vehicles in range.
 use Prim.Native.Nat.{ℕ, _<_}
 use mathlib.Core.Path.{_≡_, sym, subst}
-use mathlib.Core.Bool.{Bool, true, false, cond}
-use native.Mathlib.Omega.{arith}
+use mathlib.Core.Bool.{true, false}
 use borrow.Author.Tests.{eqb-true, eqb-false}
 use lib.Dec.{eqb}
 use lib.ListN.{getD}
@@ -10,7 +9,6 @@ use lib.Ieee.{eq}
 use Rattle.loops.proofs.Cases.{by-test}
 use Rattle.loops.proofs.EachLaws.{at-six}
 use Rattle.site.specs.declared.Site.{Site}
-use Rattle.site.specs.Record.{spoiltSite}
 use Rattle.site.specs.Named.{meteredLanes, mainlineLanes, shapeOf}
 use Rattle.speed.specs.Speed.{noSpeed}
 use Rattle.speed.proofs.SpeedLaws.{speed-near}
@@ -20,9 +18,9 @@ use Rattle.period.specs.declared.Periods.{Periods}
 use Rattle.period.specs.Counts.{laneOf}
 use Rattle.period.proofs.RangeLaws.{PeriodsGood, last-timed}
 use Rattle.state.specs.declared.State.{State}
-use Rattle.state.specs.State.{stateSpoilt}
 use Rattle.state.proofs.StateLaws.{state-good}
 use Rattle.poll.specs.Poll.{refusalOf}
+use Rattle.poll.proofs.PollLaws.{state-sound}
 use Rattle.readings.specs.Readings.{noReading, laneReadingOf, readingsOf, refusedReadings, readOf, NearIf, MeasuredNear}
 
 module _ (p : Periods) (n m : ℕ) (g : PeriodsGood p n m) where
@@ -41,15 +39,9 @@ none-near : (x : Site) (s : State) (refusal : ℕ) → MeasuredNear (s .periods 
 unfolding MeasuredNear refusedReadings
 none-near x s refusal j h = rw (at-six (λ k. noReading) noReading j h) tt
 
-in-range : (x : Site) (s : State) → refusalOf x s ≡ 0 → stateSpoilt s (shapeOf x) ≡ false
-unfolding refusalOf
-in-range x s e =
-    by-test (spoiltSite x) (λ a. let z = rw a at e in absurd (omega arith))
-    (λ a. by-test (stateSpoilt s (shapeOf x)) (λ b. let z = rw (a, b) at e in absurd (omega arith)) (λ b. b))
-
 pub near : (x : Site) (s : State) → MeasuredNear (s .periods .last) (readOf x s)
 unfolding readOf
 near x s =
     by-test (eqb (refusalOf x s) 0)
-    (λ e. rw e (all-near (s .periods) (meteredLanes x) (mainlineLanes x) (state-good s (shapeOf x) (in-range x s (eqb-true (refusalOf x s) 0 e)) .periods)))
+    (λ e. rw e (all-near (s .periods) (meteredLanes x) (mainlineLanes x) (state-good s (shapeOf x) (state-sound x s (eqb-true (refusalOf x s) 0 e)) .periods)))
     (λ e. rw e (none-near x s (refusalOf x s)))

@@ -22,6 +22,7 @@ use Rattle.lane_speeds.specs.declared.reading.Reading.{Reading}
 use Rattle.lane_speeds.specs.declared.reading.Reading.the-variants.{Absent, Measured, Carried}
 use Rattle.lane_speeds.specs.Reading.{readingOf}
 use Rattle.period.specs.declared.Periods.{Periods}
+use Rattle.period.proofs.RangeLaws.{at-least-one}
 use Rattle.state.specs.declared.State.{State}
 use Rattle.state.specs.State.{stateSpoilt}
 use Rattle.state.proofs.StateLaws.{good-state}
@@ -78,10 +79,6 @@ list-reads periods a = record {
   absent = is-absent periods;
 }
 
-some-of : (k : ℕ) → (k ≡ 0 → ⊥) → 1 ≤ k
-some-of zero g = absurd (g refl)
-some-of (suc k) g = omega arith
-
 -- The first vehicle is the slowest.
 first-one : (x : Float) → slowerOf x noSpeed ≡ x
 unfolding slowerOf
@@ -120,7 +117,7 @@ some-longest [] s = absurd (omega arith)
 some-longest (time ∷ times) s =
     by-test (eqb time 0)
     (λ e. let y = rw e at s in omega (arith, some-longest times (omega arith)))
-    (λ e. let z = eqb-false time 0 e in omega (arith, some-of time z))
+    (λ e. let z = eqb-false time 0 e in omega (arith, at-least-one time z))
 
 -- One vehicle more: of two times the longer one is the slower vehicle's.
 slower-of : (t u : ℕ) → 1 ≤ t → t ≤ 65535 → 1 ≤ u → u ≤ 65535 → slowerOf (speedOf 1 t) (speedOf 1 u) ≡ speedOf 1 (max t u)
@@ -141,14 +138,14 @@ slowest-of (time ∷ times) h s =
     let m : max time (longest times) ≡ longest times = omega (arith, eqb-true time 0 e) in
     rw (e, m) (slowest-of times (h .1) (omega arith)))
     (λ e.
-    let T1 = some-of time (eqb-false time 0 e) in
+    let T1 = at-least-one time (eqb-false time 0 e) in
     by-test (eqb (vehiclesIn times) 0)
     (λ z.
     let none = eqb-true (vehiclesIn times) 0 z in
     let m : max time (longest times) ≡ time = omega (arith, no-longest times none) in
     rw (e, no-speeds times none, m) (first-one (speedOf 1 time)))
     (λ z.
-    let some = some-of (vehiclesIn times) (eqb-false (vehiclesIn times) 0 z) in
+    let some = at-least-one (vehiclesIn times) (eqb-false (vehiclesIn times) 0 z) in
     rw (e, slowest-of times (h .1) some) (slower-of time (longest times) T1 (h .0) (some-longest times some) (longest-in times (h .1)))))
 
 speaks : (times : List ℕ) → Short times → Speaks times (speedsIn times)
@@ -196,7 +193,7 @@ module _ (x : Site) (ok : spoiltSite x ≡ false) (j : ℕ) (J : j < 6) (s : Sta
   without z =
       let none : length (h .completed) ≡ 0 = zero-of (length (h .completed)) (f .some) in
       record {
-        no-period = λ _. refl;
+        no-period = λ _. (refl, at-six (λ k. noReading) noReading j J);
         period = λ l. absurd (omega arith);
         reads = rw (at-six (λ k. noReading) noReading j J) (none-read (h .completed) none);
         speaks = λ times before e. absurd (omega (arith, ap length e, none));
@@ -219,7 +216,7 @@ module _ (x : Site) (ok : spoiltSite x ≡ false) (j : ℕ) (J : j < 6) (s : Sta
   spoken =
       by-test (eqb (s .periods .serial) 0)
       (λ e. let z = eqb-true (s .periods .serial) 0 e in rw (no-period z) (without z))
-      (λ e. let l = some-of (s .periods .serial) (eqb-false (s .periods .serial) 0 e) in rw (a-period l) (with-one l))
+      (λ e. let l = at-least-one (s .periods .serial) (eqb-false (s .periods .serial) 0 e) in rw (a-period l) (with-one l))
 
 pub in-words : (x : Site) (s : State) → SincePowerUp x s (readOf x s)
 unfolding SincePowerUp

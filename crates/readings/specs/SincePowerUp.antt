@@ -20,7 +20,7 @@ use Rattle.state.specs.declared.State.{State}
 use Rattle.tick.specs.Course.{Call, Course, atPowerUp, isAccepted, onward, courseAfter, AtAccepted}
 use Rattle.readings.specs.declared.LaneReading.{LaneReading}
 use Rattle.readings.specs.declared.Readings.{Readings}
-use Rattle.readings.specs.Readings.{laneIn}
+use Rattle.readings.specs.Readings.{noReading, laneIn}
 
 -- A lane's travel times, one for each accepted tick, 0 where no vehicle was timed: those of the open period, and those of each completed
 -- one. The newest comes first.
@@ -89,9 +89,9 @@ pub record Speaks (times : List ℕ) (s : Speeds) : Type 0 where
   -- The slowest is that of the longest time.
   pub slowest : 1 ≤ vehiclesIn times → s .slowest ≡ speedOf 1 (longest times)
 
--- What the answer says of a lane, and the refusal: 12 exactly if no period has been completed.
+-- What the answer says of a lane, and the refusal: 12 exactly if no period has been completed; then the lane is absent, and its speeds 0.
 pub record Spoken (periods : List (List ℕ)) (refusal : ℕ) (l : LaneReading) : Type 0 where
-  pub no-period : periods ≡ [] → refusal ≡ 12
+  pub no-period : periods ≡ [] → (refusal ≡ 12) × (l ≡ noReading)
   pub period : 1 ≤ length periods → refusal ≡ 0
   pub reads : Reads periods (l .reading)
   pub speaks : (times : List ℕ) (before : List (List ℕ)) → periods ≡ times ∷ before → Speaks times (l .speeds)

@@ -13,7 +13,7 @@ use Rattle.readings.specs.declared.LaneReading.{LaneReading}
 use Rattle.readings.specs.declared.Readings.{Readings}
 use Rattle.readings.specs.Readings.{laneIn}
 
--- A speed in km/h with one decimal, rounded down.
+-- A speed in km/h with one decimal.
 unfoldable pub speedText : Float → List ℕ
 speedText x = blankAndDecimal (tenthsOf x / 10) ++ (ascii "." ++ decimal (tenthsOf x % 10))
 

@@ -5,7 +5,7 @@ use lane_speeds::Reading;
 use readings::LaneReading;
 use readings::Readings;
 
-// A speed behind a blank, in km/h with one decimal, rounded down.
+// A speed behind a blank, in km/h with one decimal.
 fn put_speed(out: &mut [u8], at: usize, x: f64) -> usize
     ensures { λ r. ⌜ Put (now (out .entry)) at (speedText x) r (now (out .exit)) ⌝ }
 {

@@ -20,7 +20,7 @@ use lib.Ieee.Back.{round-whole}
 use lib.Ieee.Positive.{num, den, positive, positive-of-value, positive-finite, between, values-of-le, le-trans-positive}
 use lib.Ieee.Bits.{is-true, nanBits-is, nanBits-above}
 use lib.Ieee.Compare.{differs-from-itself}
-use Rattle.speed.specs.Speed.{speedOf, Timed, apart, Near, SpeedNear, TestsExactly, noSpeed, leastSpeed, mostSpeed, speedSpoilt}
+use Rattle.speed.specs.Speed.{speedOf, Timed, apart, Near, SpeedNear, atMost, TestsExactly, noSpeed, leastSpeed, mostSpeed, speedSpoilt}
 
 or-cases : (a b : Bool) → T (a || b) → T a ⊎ T b
 or-cases true b t = inl tt
@@ -306,7 +306,7 @@ module _ (v ms : ℕ) (t : Timed v ms) where
   speed-near = subst (λ (x : Float). Near x (21960 * v) ms) (sym speed-is) (near (21960 * v) ms some-way small-way some-millis few-millis)
 
   pub speed-tests : TestsExactly (speedOf v ms) v ms
-  unfolding ofInt TestsExactly
+  unfolding ofInt TestsExactly atMost
   speed-tests k =
       ap (λ (x : Float). le x (round binary64 false k 1)) speed-is
       ∙ test-agrees (21960 * v) ms some-way small-way some-millis few-millis (mul-le-mul-left 21960 (t .least)) k

@@ -37,13 +37,13 @@ pub record Near (x : Float) (a b : ℕ) : Type 0 where
 unfoldable pub SpeedNear : Float → ℕ → ℕ → Type 0
 SpeedNear x vehicles millis = Near x (21960 * vehicles) millis
 
--- "Testing it against a whole threshold agrees always with testing 21960 × vehicles against threshold × milliseconds."
-unfoldable pub TestsExactly : Float → ℕ → ℕ → Type 0
-TestsExactly x vehicles millis = (t : ℕ) → le x (whole t) ≡ leb (21960 * vehicles) (t * millis)
-
 -- Whether a speed is at or below a whole threshold.
 unfoldable pub atMost : Float → ℕ → Bool
 atMost x t = le x (whole t)
+
+-- "Testing it against a whole threshold agrees always with testing 21960 × vehicles against threshold × milliseconds."
+unfoldable pub TestsExactly : Float → ℕ → ℕ → Type 0
+TestsExactly x vehicles millis = (t : ℕ) → atMost x t ≡ leb (21960 * vehicles) (t * millis)
 
 -- 0, 0.25 = 1 × 2^-2, and 21960 = 2745 × 2^3.
 abbrev pub noSpeed : Float

@@ -48,7 +48,7 @@ pub fn spoilt(x: f64) -> bool
     !((0.25 <= x) & (x <= 21960.0))
 }
 
-// A double's bit pattern; of a double that is no number the one with only the highest digit set.
+// A double's bit pattern; of a double that is no number the one whose fraction has only its highest bit set.
 pub fn bits_of(x: f64) -> u64
     ensures { λ r. ⌜ r ≡ toBits binary64 x ⌝ }
 {

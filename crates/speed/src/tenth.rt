@@ -1,4 +1,4 @@
-// A speed in whole tenths of a km/h, rounded down.
+// A speed in whole tenths of a km/h.
 ghost use mathlib.Core.Path.{_≡_};
 ghost use Prim.Native.Nat.{ℕ, _*_, _/_};
 ghost use lib.Ieee.{le};
@@ -15,7 +15,8 @@ fn reaches(x: f64, k: u32) -> bool
     k as f64 / 10.0 <= x
 }
 
-// The greatest number of tenths that a speed reaches. If the speed comes from counts, that is its exact quotient in tenths, rounded down.
+// The greatest number of tenths, up to those of 21960 km/h, whose double a speed is not below; 0 if there is none. If the speed comes
+// from counts, that is its exact quotient in tenths, rounded down.
 pub fn tenths(x: f64) -> u32
     ensures is { λ r. ⌜ r ≡ tenthsOf x ⌝ }
     ensures exact { λ r. ⌜ ((v ms : ℕ) → Timed v ms → x ≡ speedOf v ms → r ≡ 219600 * v / ms) ⌝ }

@@ -147,8 +147,8 @@ module _ (x : Site) (s : State) (i : Input) (a : Accepted x s i) where
   unfolding acceptedTick decidedIn decisionOf
   tick-entry = entry-is x (i .clock) (a .site) (a .clock)
 
-  -- Its level is the one that whole numbers decide.
-  pub tick-levelled : Levelled x (commandInForce x (i .clock) (i .manual) (i .centre)) (countedIn x s i) (acceptedTick x s i .decision .level)
+  -- Its level is the one that whole numbers decide, and its wish what that gives.
+  pub tick-levelled : Levelled x (commandInForce x (i .clock) (i .manual) (i .centre)) (countedIn x s i) (acceptedTick x s i .decision .level) (acceptedTick x s i .decision .wish)
   unfolding acceptedTick decidedIn countedIn
   tick-levelled =
       let n = meteredLanes x in

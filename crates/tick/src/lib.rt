@@ -248,7 +248,7 @@ pub fn tick(site: Site, state: State, input: Input) -> Ticked
     ensures kept { λ r. ⌜ (r .refusal ≡ 0 → stateSpoilt (r .state) (shapeOf site) ≡ false) ⌝ }
     ensures day { λ r. ⌜ (r .refusal ≡ 0 → Typed (input .clock .date) (site .dates) (site .holidays) (r .decision .day)) ⌝ }
     ensures entry { λ r. ⌜ (r .refusal ≡ 0 → EntryInForce site (input .clock) (r .decision .entry)) ⌝ }
-    ensures levelled { λ r. ⌜ (r .refusal ≡ 0 → Levelled site (commandInForce site (input .clock) (input .manual) (input .centre)) (countedIn site state input) (r .decision .level)) ⌝ }
+    ensures levelled { λ r. ⌜ (r .refusal ≡ 0 → Levelled site (commandInForce site (input .clock) (input .manual) (input .centre)) (countedIn site state input) (r .decision .level) (r .decision .wish)) ⌝ }
     ensures steered { λ r. ⌜ (r .refusal ≡ 0 → Steered (timingsOf site) (input .calls .preemption) (r .decision .wish) (state .group) (r .state .group .interval)) ⌝ }
     ensures cycled { λ r. ⌜ (r .refusal ≡ 0 → Cycled (timingsOf site .vehicles) (r .decision .wish) (r .cycle)) ⌝ }
     ensures searched { λ r. ⌜ (r .refusal ≡ 0 → Searched (timingsOf site) (r .cycle) (input .lanes) (state .group) (record { group = r .state .group; released = r .released })) ⌝ }

@@ -1,6 +1,6 @@
 -- Document 02, A7: "A tick record is a row of two-byte numbers in sections, each after its count. Count 5: year, month, day, and the tenth
 -- of the day as high and low halves. Count n: demand and passage per lane. Count m: working, occupied, vehicles and speed per lane. Count 2:
--- preemption and bypass. Count 2: kind, rate and table of each command, manual first."
+-- preemption and bypass. Count 2: kind, rate and table of each command, manual first." The speed is now a travel time (A8).
 use Prim.Native.Nat.{ℕ, _+_, _*_}
 use mathlib.Core.Bool.{Bool, _&&_}
 use mathlib.Core.List.{List}

@@ -6,3 +6,4 @@ pub mod NearestCycle
 pub mod PastMidnight
 pub mod Bus
 pub mod MovedHolidays
+pub mod LoopPairs

@@ -11,8 +11,8 @@ use crate::tick_cases::{counted, fixed, fresh, in_demand, DECIDE, POLL};
 // Spoilt records.
 
 /// Every call but power-up.
-fn calls() -> [Op; 4] {
-    [Op::Ticks(1, in_demand(fixed(600))), DECIDE, POLL, Op::Write(600)]
+fn calls() -> [Op; 6] {
+    [Op::Ticks(1, in_demand(fixed(600))), DECIDE, POLL, Op::Readings, Op::Write(600), Op::Records(0, Vec::new())]
 }
 
 /// Every call on a record with one number changed; then power-up there, and at the record of the file.

@@ -369,7 +369,7 @@ fn carried_over() -> Vec<u8> {
 }
 
 /// The speed that is carried over is that of the period, and not its latest or its slowest.
-fn carries_the_mean() -> Vec<u8> {
+fn carries_over_the_period() -> Vec<u8> {
     let mut case = Case::new(&site(1, &[]));
     // 183 and 549: 43920 ÷ 732 is 60
     case.ticks(1, vehicles(&[(1, 549)]));
@@ -566,7 +566,7 @@ pub fn cases() -> Vec<Vec<u8>> {
     let kept = [kept_at_edges(), vec![kept_at_calls(), kept_alone(), minus_zero(), fewer_lanes()]].concat();
     let sums = vec![sums(), quotients()];
     let levels = vec![at_thresholds(), not_good(), not_rounded(), levels_of_a_run()];
-    let readings = vec![carried_over(), carries_the_mean(), last_tick(), latest_and_slowest(), at_every_tick(), not_timed()];
+    let readings = vec![carried_over(), carries_over_the_period(), last_tick(), latest_and_slowest(), at_every_tick(), not_timed()];
     let refusals = vec![refusals(), refused_ticks(), between_records(), last_serial()];
     [kept, sums, levels, readings, each_m(), refusals].concat()
 }

@@ -19,11 +19,12 @@ struct Lane {
     completed: Vec<Vec<u64>>,
 }
 
-/// What is shown of it is, in tenths, 219600 × vehicles ÷ milliseconds rounded down.
+/// It is near the exact quotient. What is shown of it is, in tenths, 219600 × vehicles ÷ milliseconds rounded down.
 fn speed_of(times: &[u64]) -> Double {
     let (vehicles, millis) = (times.len() as u64, times.iter().sum());
     let speed = quotient(vehicles, millis);
     assert_eq!(tenths(speed), 10 * LOOPS * vehicles / millis, "{vehicles} vehicles in {millis} ms are shown otherwise");
+    hold_bound(speed, vehicles, millis);
     speed
 }
 
@@ -81,10 +82,15 @@ impl Watch {
 
     /// What a call gives, all accepted ticks since power-up being those of the book.
     pub fn readings(&mut self, given: Result<[LaneSpeeds; 6], u8>) {
-        let Ok(given) = given else {
-            assert!(self.lanes[0].completed.is_empty(), "no readings where a period was completed");
-            return;
+        let none = self.lanes[0].completed.is_empty();
+        let given = match given {
+            Ok(given) => given,
+            Err(refusal) => {
+                assert!(none && refusal == 12, "refused with {refusal}, periods completed: {}", !none);
+                return;
+            }
         };
+        assert!(!none, "readings where no period was completed");
         for (lane, given) in self.lanes.iter().zip(given) {
             // beyond m nothing is kept from power-up on
             let (wanted, ago) = match lane.completed[..] {
