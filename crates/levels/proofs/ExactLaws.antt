@@ -1,10 +1,10 @@
 -- The good lanes of counts in range have timed vehicles in range: their speed is near the exact one, and a test of it is one of whole
 -- numbers, so that the levels decide as whole numbers do.
-use Prim.Native.Nat.{ℕ, zero, suc, _+_, _*_, _≤_, _<_}
+use Prim.Native.Nat.{ℕ, zero, suc, _*_, _≤_}
 use mathlib.Core.Path.{_≡_, refl, sym, subst}
-use mathlib.Core.Bool.{Bool, true, false}
+use mathlib.Core.Bool.{true, false}
 use native.Mathlib.Omega.{arith}
-use borrow.Author.Tests.{lt-ltb, le-ltb, ltb-true, eq-eqb}
+use borrow.Author.Tests.{lt-ltb, ltb-true}
 use lib.Dec.{ltb, eqb}
 use Rattle.loops.proofs.Cases.{by-test}
 use lib.Ieee.{Float}
@@ -14,7 +14,7 @@ use Rattle.period.specs.declared.Counts.{Counts}
 use Rattle.period.specs.declared.LaneCounts.{LaneCounts}
 use Rattle.period.specs.Counts.{laneOf, goodOf}
 use Rattle.period.specs.Range.{countsSpoilt}
-use Rattle.period.proofs.RangeLaws.{LaneGood, CountsGood, counts-good, mostTicks, most-most}
+use Rattle.period.proofs.RangeLaws.{CountsGood, counts-good, most-most}
 use Rattle.levels.specs.declared.measure.Measured.{Measured}
 use Rattle.levels.specs.declared.Level.{Level}
 use Rattle.levels.specs.Measures.{overGood, totalsOf, measuresOf, measuredOf, OfSpeed}

@@ -1,7 +1,6 @@
 -- Document 01, 'What is wanted': what a period's counts measure "over good lanes".
 use Prim.Native.Nat.{ℕ, zero, suc, _+_, _*_, _/_, _≤_}
-use mathlib.Core.Path.{_≡_}
-use mathlib.Core.Bool.{true, cond}
+use mathlib.Core.Bool.{cond}
 use lib.Dec.{ltb, eqb}
 use lib.Ieee.{Float}
 use Rattle.speed.specs.Speed.{speedOf, noSpeed}

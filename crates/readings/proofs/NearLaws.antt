@@ -1,10 +1,7 @@
 -- The speed of a lane that is measured is near its exact value, since a state in range has timed vehicles in range.
 use Prim.Native.Nat.{ℕ, _<_}
-use mathlib.Core.Path.{_≡_, sym, subst}
-use mathlib.Core.Bool.{true, false}
 use borrow.Author.Tests.{eqb-true, eqb-false}
 use lib.Dec.{eqb}
-use lib.ListN.{getD}
 use lib.Ieee.{eq}
 use Rattle.loops.proofs.Cases.{by-test}
 use Rattle.loops.proofs.EachLaws.{at-six}

@@ -1,10 +1,10 @@
 -- What the state keeps of a lane is what the lane's travel times since power-up give: one tick keeps that, and so does a list of them.
-use Prim.Native.Nat.{ℕ, zero, suc, _+_, _≤_, _<_}
-use mathlib.Core.Path.{_≡_, refl, sym, ap, ap₂, subst, _∙_}
-use mathlib.Core.Bool.{Bool, true, false, cond}
+use Prim.Native.Nat.{ℕ, _+_, _≤_, _<_}
+use mathlib.Core.Path.{_≡_, refl, sym, ap, subst, _∙_}
+use mathlib.Core.Bool.{true, false, cond}
 use mathlib.Core.List.{List, [], _∷_}
 use native.Mathlib.Omega.{arith}
-use borrow.Author.Tests.{eq-eqb, ne-eqb, lt-ltb, ltb-true, ltb-false, eqb-true}
+use borrow.Author.Tests.{eq-eqb, ne-eqb, lt-ltb, ltb-true, ltb-false}
 use lib.Dec.{ltb, eqb}
 use lib.ListN.{length, getD}
 use lib.Ieee.{Float}
@@ -18,13 +18,12 @@ use Rattle.inputs.specs.declared.LaneSample.{LaneSample}
 use Rattle.inputs.specs.declared.Metered.{Metered}
 use Rattle.inputs.specs.declared.Mainline.{Mainline}
 use Rattle.inputs.specs.Samples.{laneSampleOf, laneBad, travelTime}
-use Rattle.speed.specs.Speed.{speedOf, Timed, noSpeed}
+use Rattle.speed.specs.Speed.{Timed, noSpeed}
 use Rattle.lane_speeds.specs.declared.Speeds.{Speeds}
-use Rattle.lane_speeds.specs.Speeds.{noSpeeds, currentOf, lastOf, earlierOf, afterVehicle, timeAt, speedsTimed, lastMeasured, speedsClosed, noneKept}
-use Rattle.period.specs.declared.Counts.{Counts}
+use Rattle.lane_speeds.specs.Speeds.{noSpeeds, currentOf, lastOf, earlierOf, afterVehicle, timeAt, speedsTimed, lastMeasured, speedsClosed}
 use Rattle.period.specs.declared.LaneCounts.{LaneCounts}
 use Rattle.period.specs.declared.Periods.{Periods}
-use Rattle.period.specs.Counts.{laneOf, noCounts, noPeriods}
+use Rattle.period.specs.Counts.{laneOf, noPeriods}
 use Rattle.period.specs.Counting.{timedOf, laneCounted, laneCountedAt, countedOf, closedOf, afterTick, greenCounted, afterRelease}
 use Rattle.period.proofs.RangeLaws.{sample-good, main-bad, PeriodsGood, next-some, last-timed, periods-after}
 use Rattle.state.specs.declared.State.{State}
@@ -35,7 +34,7 @@ use Rattle.tick.specs.Tick.{powerUpOf, countedIn, acceptedTick}
 use Rattle.tick.specs.Course.{Call, Course, atPowerUp, isAccepted, onward, courseAfter, AtAccepted}
 use Rattle.tick.proofs.TickLaws.{Accepted}
 use Rattle.tick.proofs.CourseLaws.{Going, start, passed, onward-state, stays, keeps}
-use Rattle.readings.specs.SincePowerUp.{Times, noTimes, withTick, timeOf, timesAfter, vehiclesIn, millisIn, speedOver}
+use Rattle.readings.specs.SincePowerUp.{Times, noTimes, withTick, timeOf, timesAfter, vehiclesIn, millisIn}
 
 -- The newest completed period, and those before it.
 abbrev pub newest : List (List ℕ) → List ℕ

@@ -1,22 +1,21 @@
 -- The reading and the speeds that follow from what is kept are those of the request's words.
 use Prim.Native.Nat.{ℕ, zero, suc, _+_, _≤_, _<_, max}
 use mathlib.Core.Path.{_≡_, refl, sym, ap, subst, _∙_}
-use mathlib.Core.Bool.{Bool, true, false, cond}
+use mathlib.Core.Bool.{true, false}
 use mathlib.Core.List.{List, [], _∷_, _++_}
 use native.Mathlib.Omega.{arith}
 use borrow.Author.Tests.{eq-eqb, ne-eqb, eqb-true, eqb-false, ltb-true, ltb-false}
 use lib.Dec.{ltb, eqb}
-use lib.ListN.{length, getD}
+use lib.ListN.{length}
 use lib.Ieee.{Float, eq}
 use Rattle.loops.proofs.Cases.{by-test}
 use Rattle.loops.proofs.EachLaws.{at-six}
 use Rattle.site.specs.declared.Site.{Site}
 use Rattle.site.specs.Record.{spoiltSite}
-use Rattle.site.specs.Named.{mainlineLanes, shapeOf}
+use Rattle.site.specs.Named.{shapeOf}
 use Rattle.speed.specs.Speed.{speedOf, Timed, noSpeed}
 use Rattle.speed.proofs.SpeedLaws.{speed-some}
 use Rattle.speed.proofs.SlowerLaws.{slower, not-slower}
-use Rattle.lane_speeds.specs.declared.Speeds.{Speeds}
 use Rattle.lane_speeds.specs.Speeds.{noSpeeds, slowerOf, afterVehicle, lastMeasured}
 use Rattle.lane_speeds.specs.declared.reading.Reading.{Reading}
 use Rattle.lane_speeds.specs.declared.reading.Reading.the-variants.{Absent, Measured, Carried}
@@ -27,8 +26,7 @@ use Rattle.state.specs.declared.State.{State}
 use Rattle.state.specs.State.{stateSpoilt}
 use Rattle.state.proofs.StateLaws.{good-state}
 use Rattle.poll.specs.Poll.{refusalOf}
-use Rattle.tick.specs.Course.{Call, Course, atPowerUp, courseAfter, AtAccepted}
-use Rattle.readings.specs.declared.Readings.{Readings}
+use Rattle.tick.specs.Course.{atPowerUp}
 use Rattle.readings.specs.Readings.{noReading, laneReadingOf, readingsOf, refusedReadings, readOf, laneIn}
 use Rattle.readings.specs.SincePowerUp.{Times, noTimes, timesAfter, vehiclesIn, millisIn, longest, speedOver, NoneTimed, Reads, Speaks, Spoken, SincePowerUp}
 use Rattle.readings.proofs.TimesLaws.{newest, older, lastSpeed, speedsIn, AllTimed, Short, Fits, is-one-of-six, since-power-up}

@@ -1,6 +1,6 @@
 -- The lanes that are left: all at the start; the next one's text, and that of those behind it; none at the end.
 use Prim.Native.Nat.{ℕ, suc, _+_, _-_, _≤_, _<_}
-use mathlib.Core.Path.{_≡_, refl}
+use mathlib.Core.Path.{_≡_}
 use mathlib.Core.List.{[], _++_}
 use native.Mathlib.Omega.{arith}
 use Rattle.readings.specs.declared.Readings.{Readings}

@@ -6,7 +6,7 @@ fn main() {
     let mut name = io::buffer();
     let site = site_program::asked_site(
         b"usage: replay [SITE] < TICKS\n",
-        b"Replays ticks at a site. SITE is the site file, site.bin without one; a line of TICKS is a tick.\nWrites a line for each tick and the poll record after each period, all answers before it reads on.\ndocs/FORMATS.md describes the site file, the ticks and the answers.\n",
+        b"Replays ticks at a site. SITE is the site file, site.bin without one; a line of TICKS is a tick.\nWrites a line for each tick, and the poll record and the speeds after each period, all answers before it reads on.\ndocs/FORMATS.md describes the site file, the ticks and the answers.\n",
         &mut name,
     );
     if site.given {

@@ -1,3 +1,4 @@
 pub mod SpeedLaws
 pub mod TenthsLaws
 pub mod SlowerLaws
+pub mod EndsLaws

@@ -1,12 +1,12 @@
 -- Of two vehicles that were timed, the one of the longer time is the slower one, also once both speeds are rounded.
-use Prim.Native.Nat.{ℕ, suc, _+_, _-_, _*_, _/_, _%_, _^_, _≤_, _<_}
+use Prim.Native.Nat.{ℕ, suc, _+_, _-_, _*_, _/_, _^_, _≤_, _<_}
 use mathlib.Core.Path.{_≡_, refl, _∙_, ap₂}
-use mathlib.Core.Bool.{Bool, true, false}
+use mathlib.Core.Bool.{true, false}
 use native.Mathlib.Omega.{arith, by-contra}
 use native.Mathlib.Nat.{mul-le-mul-left, le-div-iff-mul-le, div-mul-le-self, div-le-self, div-add-mod', mod-lt, lt-of-le-of-lt}
 use borrow.Author.Tests.{lt-ltb, le-ltb}
 use lib.Dec.{T, ltb}
-use lib.Ieee.{Float, nan, inf, fin, binary64, round, lt, le}
+use lib.Ieee.{Float, nan, inf, fin, binary64, round, lt}
 use lib.Ieee.Order.{round-mono}
 use lib.Ieee.Positive.{num, den, positive, le→cross, cross→le}
 use Rattle.speed.specs.Speed.{speedOf, Timed}

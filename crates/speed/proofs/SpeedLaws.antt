@@ -5,19 +5,19 @@ use mathlib.Core.Bool.{Bool, true, false, not, _&&_, _||_, true≢false}
 use mathlib.Core.Logic.{inl, inr, _⊎_}
 use native.Mathlib.Omega.{arith, by-contra}
 use borrow.Author.Tests.{ne-eqb, lt-ltb, le-ltb}
-use native.Mathlib.Nat.{zero-mul, le-trans, le-of-eq, le-of-lt, suc-mul, lt-of-lt-of-le, lt-of-le-of-lt, lt-of-not-le, not-le-of-lt, le-of-mul-le-mul-right, lt-of-mul-lt-mul-right, mul-one, one-mul, mul-comm, mul-assoc, mul-left-comm, mul-right-comm, mul-le-mul-left, mul-le-mul-right, mul-pos, le-div-iff-mul-le, div-mul-le-self, div-add-mod', mod-lt, add-mul}
-use lib.Dec.{T, leb, ltb, eqb, leb→le, le→leb, nleb→lt, ltb→lt, eqb→eq, eqb·suc-zero}
-use lib.IntN.{pos, negsuc}
+use native.Mathlib.Nat.{zero-mul, le-trans, le-of-eq, le-of-lt, suc-mul, lt-of-lt-of-le, lt-of-not-le, not-le-of-lt, le-of-mul-le-mul-right, lt-of-mul-lt-mul-right, mul-one, one-mul, mul-comm, mul-assoc, mul-left-comm, mul-right-comm, mul-le-mul-left, mul-le-mul-right, mul-pos, le-div-iff-mul-le, div-mul-le-self, div-add-mod', mod-lt, add-mul}
+use lib.Dec.{T, leb, ltb, eqb, leb→le, le→leb, ltb→lt, eqb→eq, eqb·suc-zero}
+use lib.IntN.{pos}
 use lib.Pow.{pow-add, pow-pos, pow-mono, shl-lt}
-use lib.Ieee.{Float, nan, inf, fin, binary64, up, down, size, round, div, le, eq, ne, ofInt, nearest, isNan, nanBits, ofBits, inFloat}
+use lib.Ieee.{Float, nan, inf, fin, binary64, up, down, size, round, div, le, eq, ne, ofInt, isNan, nanBits, ofBits, inFloat}
 use lib.Ieee.Digits.{size-lt, size-reaches}
 use lib.Ieee.Fits.{nearest-le, down-pos, up-pos, and-l}
 use lib.Ieee.Exact.{HasValue, round-exact}
 use lib.Ieee.Nearest.{closest, nearest-ge}
-use lib.Ieee.Order.{drop, kept, round-mono}
-use lib.Ieee.Scale.{grid, overflow, finite, round-same, round-val, round-under}
+use lib.Ieee.Order.{drop, round-mono}
+use lib.Ieee.Scale.{finite, round-same, round-val, round-under}
 use lib.Ieee.Back.{round-whole}
-use lib.Ieee.Positive.{num, den, positive, positive-of-value, positive-finite, between, values-of-le, le-trans-positive}
+use lib.Ieee.Positive.{positive, positive-of-value, positive-finite, between, values-of-le, le-trans-positive}
 use lib.Ieee.Bits.{is-true, nanBits-is, nanBits-above}
 use lib.Ieee.Compare.{differs-from-itself}
 use Rattle.speed.specs.Speed.{speedOf, Timed, apart, Near, SpeedNear, atMost, TestsExactly, noSpeed, leastSpeed, mostSpeed, speedSpoilt}
@@ -115,7 +115,7 @@ near-of (fin s m e) a b q w l p L v over under small =
     part-of d = le-trans (le-of-eq (turn (b * w) d p)) (mul-le-mul-right d small)
       where
         turn : (x d p : ℕ) → x * (d * p) ≡ x * p * d
-        turn x d p = simp (mul-assoc, mul-comm, mul-left-comm)
+        turn x d p = simp (mul-assoc, mul-comm)
 
     upper : (y d : ℕ) → y * l ≡ q * w * d → y * b * p * l ≤ (a * d * p + a * d) * l
     upper y d h =

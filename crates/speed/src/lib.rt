@@ -45,7 +45,8 @@ pub fn spoilt(x: f64) -> bool
     if x == 0.0 {
         return false;
     }
-    !((0.25 <= x) & (x <= 21960.0))
+    // a double that is no number is neither below nor above an end, and differs from itself
+    (x < 0.25) | ((21960.0 < x) | (x != x))
 }
 
 // A double's bit pattern; of a double that is no number the one whose fraction has only its highest bit set.

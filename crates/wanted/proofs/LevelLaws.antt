@@ -1,28 +1,26 @@
 -- The level of a decision is the one that whole numbers decide, and the wish is what it gives: the counts of a period in range have a speed whose tests are of whole numbers.
-use Prim.Native.Nat.{ℕ, zero, suc, _+_, _-_, _≤_, _<_}
+use Prim.Native.Nat.{ℕ, _+_, _-_, _≤_}
 use mathlib.Core.Path.{_≡_, refl, sym, ap, subst, _∙_}
-use mathlib.Core.Bool.{Bool, true, false}
+use mathlib.Core.Bool.{Bool}
 use mathlib.Core.List.{List}
 use native.Mathlib.Omega.{arith}
 use borrow.Author.Tests.{eq-eqb, ne-eqb, eqb-true}
 use lib.Dec.{eqb}
 use Rattle.loops.proofs.Cases.{by-test}
 use Rattle.site.specs.declared.Site.{Site}
-use Rattle.site.specs.Named.{meteredLanes, mainlineLanes}
+use Rattle.site.specs.Named.{mainlineLanes}
 use Rattle.calendar.specs.declared.clock.Clock.{Clock}
 use Rattle.inputs.specs.declared.Command.{Command}
 use Rattle.period.specs.declared.Periods.{Periods}
 use Rattle.period.specs.Range.{lastTicks}
 use Rattle.period.proofs.RangeLaws.{PeriodsGood, last-most}
-use Rattle.levels.specs.declared.measure.Measures.{Measures}
-use Rattle.levels.specs.Measures.{totalsOf, measuresOf, measuredOf}
-use Rattle.levels.specs.Levels.{levelOf, decides, decidingOf, ListedLast}
-use Rattle.levels.specs.ByCounts.{decidesByCounts}
+use Rattle.levels.specs.Measures.{measuresOf, measuredOf}
+use Rattle.levels.specs.Levels.{levelOf, decidingOf, ListedLast}
 use Rattle.levels.proofs.DecidingLaws.{is-listed-last}
 use Rattle.levels.proofs.ExactLaws.{by-counts}
 use Rattle.wanted.specs.declared.wish.Choice.{Choice}
 use Rattle.wanted.specs.declared.wish.Wish.the-variants.{Metering, Clear}
-use Rattle.wanted.specs.Wish.{choice, levelChoice, measuredChoice, responsiveChoice, choiceOf}
+use Rattle.wanted.specs.Wish.{choice, levelChoice, responsiveChoice, choiceOf}
 use Rattle.wanted.specs.Decision.{commandInForce, decisionOf}
 use Rattle.wanted.specs.Levelled.{lastTotals, Levelled}
 

@@ -1,6 +1,6 @@
 -- The loop's invariant: whatever puts the text of the lanes that are left puts that of all.
 use Rattle.readings_text.proofs.LanesLaws.{lanes-start, lanes-turn, lanes-end}
-use Rattle.readings_text.specs.Line.{laneText, lanesText}
+use Rattle.readings_text.specs.Line.{lanesText}
 use Rattle.text.proofs.PutLaws.{put-turn, put-within, put-nothing}
 use Rattle.text.specs.Put.{Put, farthest}
 use lib.ListN.{length}
