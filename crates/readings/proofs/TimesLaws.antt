@@ -21,11 +21,12 @@ use Rattle.inputs.specs.Samples.{laneSampleOf, laneBad, travelTime}
 use Rattle.speed.specs.Speed.{Timed, noSpeed}
 use Rattle.lane_speeds.specs.declared.Speeds.{Speeds}
 use Rattle.lane_speeds.specs.Speeds.{noSpeeds, currentOf, lastOf, earlierOf, afterVehicle, timeAt, speedsTimed, lastMeasured, speedsClosed}
+use Rattle.lane_speeds.proofs.RangeLaws.{time-most}
 use Rattle.period.specs.declared.LaneCounts.{LaneCounts}
 use Rattle.period.specs.declared.Periods.{Periods}
 use Rattle.period.specs.Counts.{laneOf, noPeriods}
 use Rattle.period.specs.Counting.{timedOf, laneCounted, laneCountedAt, countedOf, closedOf, afterTick, greenCounted, afterRelease}
-use Rattle.period.proofs.RangeLaws.{sample-good, main-bad, PeriodsGood, next-some, last-timed, periods-after}
+use Rattle.period.proofs.RangeLaws.{main-bad, PeriodsGood, next-some, last-timed, periods-after}
 use Rattle.state.specs.declared.State.{State}
 use Rattle.state.specs.State.{freshState}
 use Rattle.state.proofs.StateLaws.{state-good}
@@ -92,14 +93,6 @@ become-earlier [] = refl
 become-earlier (times ∷ before) = refl
 
 module _ (j : ℕ) (six : j < 6) (p : Periods) (lanes : Metered) (main : Mainline) (n m : ℕ) (J : j < m) (fine : laneBad (laneSampleOf main j) ≡ false) where
-  time-most : travelTime (laneSampleOf main j) ≤ 65535
-  unfolding travelTime
-  time-most =
-      let s = laneSampleOf main j in
-      by-test (eqb (s .working) 1)
-      (λ e. by-test (eqb (s .vehicles) 1) (λ v. rw (e, v) (sample-good s fine .time)) (λ v. rw (e, v) (omega arith)))
-      (λ e. rw e (omega arith))
-
   counted-timed : laneOf (countedOf (p .current) lanes main n m) j .timed ≡ timedOf (travelTime (laneSampleOf main j)) + laneOf (p .current) j .timed
   unfolding countedOf laneCountedAt
   counted-timed = at-six (λ k. laneCountedAt (p .current) main m k .timed) 0 j six ∙ rw (lt-ltb j m J) (lane-timed (laneOf (p .current) j) (laneSampleOf main j) .0)
@@ -141,7 +134,7 @@ module _ (j : ℕ) (six : j < 6) (p : Periods) (lanes : Metered) (main : Mainlin
           none = f .none;
           some = f .some;
           all-timed = f .all-timed;
-          short = (time-most, f .short);
+          short = (time-most (laneSampleOf main j) fine, f .short);
           last-short = f .last-short;
         })
 
@@ -171,7 +164,7 @@ module _ (j : ℕ) (six : j < 6) (p : Periods) (lanes : Metered) (main : Mainlin
             f .all-timed,
           );
           short = tt;
-          last-short = (time-most, f .short);
+          last-short = (time-most (laneSampleOf main j) fine, f .short);
         })
 
     tick-fits : PeriodsGood p n m → PeriodsGood (afterTick p lanes main n m) n m

@@ -15,7 +15,7 @@ use Rattle.site.specs.Record.{spoiltSite}
 use Rattle.site.specs.Named.{shapeOf}
 use Rattle.speed.specs.Speed.{speedOf, Timed, noSpeed}
 use Rattle.speed.proofs.SpeedLaws.{speed-some}
-use Rattle.speed.proofs.SlowerLaws.{slower, not-slower}
+use Rattle.speed.proofs.SlowerLaws.{one-timed, slower, not-slower}
 use Rattle.lane_speeds.specs.Speeds.{noSpeeds, slowerOf, afterVehicle, lastMeasured}
 use Rattle.lane_speeds.specs.declared.reading.Reading.{Reading}
 use Rattle.lane_speeds.specs.declared.reading.Reading.the-variants.{Absent, Measured, Carried}
@@ -121,7 +121,7 @@ some-longest (time ∷ times) s =
 slower-of : (t u : ℕ) → 1 ≤ t → t ≤ 65535 → 1 ≤ u → u ≤ 65535 → slowerOf (speedOf 1 t) (speedOf 1 u) ≡ speedOf 1 (max t u)
 unfolding slowerOf
 slower-of t u T1 ht U1 hu =
-    let timed : Timed 1 u = record { some = omega arith; few = omega arith; least = U1; most = omega arith } in
+    let timed = one-timed u U1 hu in
     by-test (ltb u t)
     (λ e. let h = ltb-true u t e in let m : max t u ≡ t = omega arith in rw (speed-some 1 u timed, slower t u T1 ht U1 hu h, m))
     (λ e. let h = ltb-false u t e in let m : max t u ≡ u = omega arith in rw (speed-some 1 u timed, not-slower t u T1 ht U1 hu h, m))

@@ -25,7 +25,7 @@ lt-cross (fin false m e) (fin true n d) p q = absurd q
 lt-cross (fin false m e) (fin false n d) p q = refl
 
 -- One vehicle in 1 to 65535 ms.
-one-timed : (t : ℕ) → 1 ≤ t → t ≤ 65535 → Timed 1 t
+pub one-timed : (t : ℕ) → 1 ≤ t → t ≤ 65535 → Timed 1 t
 one-timed t T1 ht = record { some = omega arith; few = omega arith; least = T1; most = omega arith }
 
 abbrev rounded : ℕ → Float
