@@ -1,5 +1,5 @@
 -- What the programs print alike.
-use Prim.Native.Nat.{ℕ}
+use Prim.Native.Nat.{ℕ, _/_, _%_}
 use mathlib.Core.List.{List, [], _∷_, _++_}
 use lib.ListN.{getD}
 use Rattle.text.specs.Ascii.{ascii}
@@ -16,6 +16,10 @@ dayName day = getD dayNames day (ascii "-")
 -- A blank, and a number behind it.
 abbrev pub blankAndDecimal : ℕ → List ℕ
 blankAndDecimal n = ascii " " ++ decimal n
+
+-- A blank, and a number of ticks in seconds with one decimal.
+unfoldable pub blankAndSeconds : ℕ → List ℕ
+blankAndSeconds ticks = blankAndDecimal (ticks / 10) ++ (ascii "." ++ decimal (ticks % 10))
 
 -- "A refused file prints only `refused N at P`."
 unfoldable pub refusalLine : ℕ → ℕ → List ℕ

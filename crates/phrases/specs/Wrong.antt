@@ -8,10 +8,10 @@ use Rattle.text.specs.Decimal.{decimal}
 use Rattle.text.specs.Items.{item}
 use Rattle.phrases.specs.Phrases.{blankAndDecimal}
 
--- Document 01, 'Refusals': the trade words of refusals 1 to 14. Item 0, of no refusal, is empty.
+-- Documents 01 and 02, the trade words of refusals 1 to 16. Item 0, of no refusal, is empty.
 unfoldable pub tradeWord : ℕ → List ℕ
 tradeWord refusal =
-    item (ascii ",short file,wrong count,bad timing,bad entry,bad holiday,bad level,long file,bad clock,bad sample,bad command,small buffer,no period,spoilt state,spoilt site")
+    item (ascii ",short file,wrong count,bad timing,bad entry,bad holiday,bad level,long file,bad clock,bad sample,bad command,small buffer,no period,spoilt state,spoilt site,bad record,bad slope")
     refusal
 
 -- How a line begins that says what is wrong: `bad entry: `.

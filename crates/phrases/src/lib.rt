@@ -1,12 +1,12 @@
-// What the programs print alike: a day's name, a number behind a blank, the line of a refused site
-// file, and of what is wrong its trade word and the range that was left.
+// What the programs print alike: a day's name, a number and a time behind a blank, the line of
+// a refused site file, and of what is wrong its trade word and the range that was left.
 mod wrong;
 
 pub use wrong::put_allowed;
 pub use wrong::put_not_allowed;
 pub use wrong::put_opening;
 ghost use Rattle.text.specs.Put.{Put};
-ghost use Rattle.phrases.specs.Phrases.{dayName, blankAndDecimal, refusalLine};
+ghost use Rattle.phrases.specs.Phrases.{dayName, blankAndDecimal, blankAndSeconds, refusalLine};
 
 const DAYS: [[u8; 3]; 8] = [
     *b"Sun",
@@ -35,6 +35,14 @@ pub fn put_blank_and_decimal(out: &mut [u8], at: usize, n: u64) -> usize
 {
     let p = text::put_byte(out, at, b' ');
     text::put_decimal(out, p, n)
+}
+
+pub fn put_blank_and_seconds(out: &mut [u8], at: usize, ticks: u16) -> usize
+    ensures { λ r. ⌜ Put (now (out .entry)) at (blankAndSeconds ticks) r (now (out .exit)) ⌝ }
+{
+    let p = put_blank_and_decimal(out, at, (ticks / 10) as u64);
+    let q = text::put_byte(out, p, b'.');
+    text::put_decimal(out, q, (ticks % 10) as u64)
 }
 
 pub fn put_refusal(out: &mut [u8], at: usize, refusal: u8, place: usize) -> usize

@@ -4,7 +4,7 @@ ghost use mathlib.Core.Path.{_≡_};
 ghost use Prim.Native.Nat.{_≤_};
 ghost use Rattle.text.specs.Put.{Put};
 ghost use Rattle.release.specs.Cycle.{cycleTicks};
-ghost use Rattle.rate_sheet.specs.Sheet.{secondsText, rateLine, rateLines, sheetText, ramp, asking, firstTick};
+ghost use Rattle.rate_sheet.specs.Sheet.{rateLine, rateLines, sheetText, ramp, asking, firstTick};
 use calendar::Clock;
 use calendar::Date;
 use inputs::Calls;
@@ -112,24 +112,15 @@ fn cycle(vehicles: u16, rate: u16) -> u16
     ticked.cycle
 }
 
-// A blank, and a number of ticks in seconds.
-fn put_seconds(out: &mut [u8], at: usize, ticks: u16) -> usize
-    ensures { λ r. ⌜ Put (now (out .entry)) at (secondsText ticks) r (now (out .exit)) ⌝ }
-{
-    let p = phrases::put_blank_and_decimal(out, at, (ticks / 10) as u64);
-    let q = text::put_byte(out, p, b'.');
-    text::put_decimal(out, q, (ticks % 10) as u64)
-}
-
 fn put_rate(out: &mut [u8], at: usize, rate: u16) -> usize
     requires { ⌜ 150 ≤ rate ⌝ }
     requires { ⌜ rate ≤ 1800 ⌝ }
     ensures { λ r. ⌜ Put (now (out .entry)) at (rateLine rate) r (now (out .exit)) ⌝ }
 {
     let p = text::put_decimal(out, at, rate as u64);
-    let one = put_seconds(out, p, cycle(1, rate));
-    let two = put_seconds(out, one, cycle(2, rate));
-    let three = put_seconds(out, two, cycle(3, rate));
+    let one = phrases::put_blank_and_seconds(out, p, cycle(1, rate));
+    let two = phrases::put_blank_and_seconds(out, one, cycle(2, rate));
+    let three = phrases::put_blank_and_seconds(out, two, cycle(3, rate));
     text::put_byte(out, three, b'\n')
 }
 
@@ -175,16 +166,15 @@ fn print_no_argument_wanted() {
     io::write_all(STDERR_FILENO, b"no argument is wanted\nusage: rate_sheet\n");
 }
 
-// The first argument is the program's own name.
 fn main() {
-    let count = os::arg_count();
-    if count <= 1 {
+    let count = site_program::arguments_given();
+    if count == 0 {
         print_sheet();
         return;
     }
     let mut argument = io::buffer();
     let n = os::arg(1, &mut argument);
-    match site_program::asked_by(count - 1, &argument[..n]) {
+    match site_program::asked_by(count, &argument[..n]) {
         Asked::Help => print_help(),
         _ => print_no_argument_wanted(),
     }

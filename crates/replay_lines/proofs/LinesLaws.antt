@@ -14,7 +14,8 @@ use Rattle.tick_line.specs.declared.scan.Scan.{Scan}
 use Rattle.tick_line.specs.declared.reading.ReadLine.{ReadLine}
 use Rattle.tick_line.specs.Scan.{oneMore, lineStart, scanned, afterByte as scanAfter}
 use Rattle.tick_line.specs.Reading.{isTick}
-use Rattle.tick_line.specs.Words.{onFirst, isEmpty, lineRead}
+use Rattle.word_value.specs.Digits.{isEmpty}
+use Rattle.tick_line.specs.Words.{onFirst, lineRead}
 use Rattle.tick_line.proofs.WordLaws.{line-by-words}
 use Rattle.tick_text.specs.Lines.{headingLine}
 use Rattle.replay_lines.specs.declared.run.Run.{Run}

@@ -88,7 +88,7 @@ fn print_too_many(count: usize, usage: &[u8]) {
 }
 
 // How many arguments stand behind the program's own name.
-fn arguments_given() -> usize {
+pub fn arguments_given() -> usize {
     let count = os::arg_count();
     if count == 0 {
         return 0;

@@ -1,3 +1,4 @@
 pub mod DecimalLaws
 pub mod ItemLaws
+pub mod JoinedLaws
 pub mod PutLaws

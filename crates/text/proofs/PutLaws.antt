@@ -1,13 +1,13 @@
 -- Putting one text and then another puts both, one behind the other.
 use Prim.Native.Nat.{ℕ, suc, _+_, _≤_, _<_}
-use mathlib.Core.Path.{_≡_, refl, ap, sym, _∙_}
+use mathlib.Core.Path.{_≡_, refl, ap, sym, _∙_, subst}
 use mathlib.Core.Bool.{Bool, true, false}
-use mathlib.Core.List.{List, [], _∷_, _++_}
+use mathlib.Core.List.{List, [], _∷_, _++_, append-nil}
 use native.Mathlib.Omega.{arith}
 use borrow.Author.Tests.{leb-true, leb-false}
 use lib.Dec.{leb}
 use lib.ListN.{length, drop, length-append}
-use lib.Seq.{sets, set-out, length-sets}
+use lib.Seq.{sets, set-out, length-sets, drop-length}
 use Rattle.output.proofs.SetsLaws.{sets-append, over-front}
 use Rattle.text.specs.Put.{farthest, Put}
 
@@ -17,6 +17,9 @@ sets-out d p (b ∷ text) h = rw (set-out d p b h) (sets-out d (suc p) text (ome
 
 pub put-nothing : (d : List ℕ) (p : ℕ) → p ≤ farthest → Put d p [] p d
 put-nothing d p h = record { next = omega arith; bytes = refl }
+
+pub put-as : {d d′ a b : List ℕ} {p r : ℕ} → a ≡ b → Put d p a r d′ → Put d p b r d′
+put-as {d} {d′} {p = p} {r = r} e f = subst (λ (x : List ℕ). Put d p x r d′) e f
 
 module _ {d d′ a : List ℕ} {p r : ℕ} (l : length d < farthest) (f : Put d p a r d′) where
   fits-or-not : (b : List ℕ) (fits : Bool) → leb (p + length a) farthest ≡ fits → sets (sets d p a) r b ≡ sets d p (a ++ b)
@@ -53,3 +56,7 @@ put-within f = omega (arith, f .next)
 pub put-front : {d d′ text : List ℕ} {r : ℕ} → length d < farthest → length text ≤ length d → Put d 0 text r d′
     → (r ≡ length text) × (d′ ≡ text ++ drop (length text) d)
 put-front {d} {d′} {text} {r} l h f = (omega (arith, f .next), f .bytes ∙ over-front text d h)
+
+-- One that is as long as the buffer is all that stands there.
+pub put-whole : {d d′ text : List ℕ} {r : ℕ} → length d < farthest → length d ≡ length text → Put d 0 text r d′ → d′ ≡ text
+put-whole {d} {d′} {text} l same f = put-front l (omega arith) f .1 ∙ rw (← same, drop-length d) (append-nil text)

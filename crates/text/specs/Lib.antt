@@ -1,4 +1,5 @@
 pub mod Ascii
 pub mod Decimal
 pub mod Items
+pub mod Joined
 pub mod Put

@@ -3,7 +3,7 @@
 ghost use mathlib.Core.Path.{_≡_};
 ghost use mathlib.Core.List.{_∷_, []};
 ghost use Prim.Native.Nat.{_+_, min};
-ghost use Rattle.text.specs.Decimal.{decimal, twoDigits};
+ghost use Rattle.text.specs.Decimal.{decimal, signed, twoDigits};
 ghost use Rattle.text.specs.Items.{item};
 ghost use Rattle.text.specs.Put.{farthest, Put};
 
@@ -59,6 +59,17 @@ pub fn put_decimal(out: &mut [u8], at: usize, n: u64) -> usize
     }
     let last = put_decimal(out, at, n / 10);
     put_byte(out, last, 48 + (n % 10) as u8)
+}
+
+// A number that may be negative.
+pub fn put_signed(out: &mut [u8], at: usize, n: i64) -> usize
+    ensures { λ r. ⌜ Put (now (out .entry)) at (signed n) r (now (out .exit)) ⌝ }
+{
+    if n < 0 {
+        let p = put_byte(out, at, b'-');
+        return put_decimal(out, p, (-1 - n) as u64 + 1);
+    }
+    put_decimal(out, at, n as u64)
 }
 
 // Item i, from 0, of a list whose items stand between commas; nothing where the list has none.

@@ -16,7 +16,7 @@ use Rattle.site.proofs.TimingLaws.{timings-good}
 use Rattle.timings.specs.declared.Timings.{Timings}
 use Rattle.loops.proofs.Cases.{by-test}
 use Rattle.loops.proofs.EachLaws.{at-four}
-use Rattle.release.proofs.CycleLaws.{up-grows}
+use Rattle.rounding.proofs.UpLaws.{up-grows}
 use Rattle.group.specs.declared.Group.{Group}
 use Rattle.group.specs.declared.indication.Indications.{Indications}
 use Rattle.group.specs.Indications.{laneShown, indicationsOf}

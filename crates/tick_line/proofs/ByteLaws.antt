@@ -8,7 +8,8 @@ use borrow.Author.Tests.{ltb-true, ltb-false, eqb-true, le-leb, lt-leb, ne-eqb}
 use lib.Dec.{ltb, leb, eqb}
 use Rattle.tick_line.specs.declared.scan.Scan.{Scan}
 use Rattle.tick_line.specs.Scan.{withDigit, withBlank, withReturn, withOther, withByte, afterByte}
-use Rattle.tick_line.specs.Words.{withoutReturn, onFirst, wordsOf, withoutLastEmpty, isDigit}
+use Rattle.word_value.specs.Digits.{isDigit}
+use Rattle.tick_line.specs.Words.{withoutReturn, onFirst, wordsOf, withoutLastEmpty}
 use Rattle.tick_line.proofs.ScanLaws.{behind-other}
 
 -- A byte is a blank, a carriage return, a digit or another; what it does to a scan whose last byte was no carriage return.

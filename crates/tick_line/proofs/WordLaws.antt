@@ -1,6 +1,6 @@
 -- What the scan of a line gives is what its words give. After each byte the scan stands between words, within a number, behind blanks or
 -- behind a word that decides; of each of these it is said what is read when the rest of the line follows, by induction on that rest.
-use Prim.Native.Nat.{ℕ, _+_, _*_, _-_, _^_, _≤_, _<_, min}
+use Prim.Native.Nat.{ℕ, _+_, _*_, _-_, _^_, _≤_, _<_}
 use mathlib.Core.Path.{_≡_, refl, ap, sym, _∙_}
 use mathlib.Core.Bool.{Bool, true, false, cond}
 use mathlib.Core.List.{List, [], _∷_}
@@ -15,9 +15,11 @@ use Rattle.tick_line.specs.declared.scan.Stage.{Stage}
 use Rattle.tick_line.specs.declared.scan.Stage.the-variants.{Between, Number, Blanks, NoNumber, Above, Empty}
 use Rattle.tick_line.specs.declared.reading.Verdict.the-variants.{NoNumber as WordNoNumber, Above as WordAbove, Empty as WordEmpty}
 use Rattle.tick_line.specs.declared.reading.ReadLine.{ReadLine}
-use Rattle.tick_line.specs.Scan.{lineStart, inStage, inNumber, afterDigit, afterBlank, afterOther, grown, mostOf, withNumber, withDigit, ended, withBlank, withReturn, withOther, afterByte, scanned, closed}
+use Rattle.word_value.specs.Digits.{isDigit, digitsAlone, followedBy, valueOf, kept, grown}
+use Rattle.word_value.proofs.DigitLaws.{grown-kept}
+use Rattle.tick_line.specs.Scan.{lineStart, inStage, inNumber, afterDigit, afterBlank, afterOther, mostOf, withNumber, withDigit, ended, withBlank, withReturn, withOther, afterByte, scanned, closed}
 use Rattle.tick_line.specs.Reading.{wordsWanted, verdictOf, readAs, tickRead}
-use Rattle.tick_line.specs.Words.{unlessLast, lineWords, isDigit, digitsAlone, followedBy, valueOf, verdictFrom, lineVerdict, numbersFrom, lineRow, lineRead}
+use Rattle.tick_line.specs.Words.{unlessLast, lineWords, verdictFrom, lineVerdict, numbersFrom, lineRow, lineRead}
 use Rattle.tick_line.proofs.ScanLaws.{behind-return}
 use Rattle.tick_line.proofs.ByteLaws.{Kind, blank, return, digit, other, kind, firstIn, othersIn, words-blank, words-more, words-return}
 use Rattle.tick_line.proofs.RowLaws.{one-more, placeBehind, row-step, over-zeros}
@@ -33,14 +35,6 @@ most-fits word = by-word (eqb word 4)
     by-word : (t : Bool) → cond t 4294967295 65535 < 4294967296
     by-word true = omega arith
     by-word false = omega arith
-
--- The scan keeps a value up to 4294967296.
-abbrev kept : ℕ → ℕ
-kept value = min value 4294967296
-
-grown-kept : (value d : ℕ) → grown (kept value) d ≡ kept (value * 10 + d)
-unfolding grown
-grown-kept value d = omega arith
 
 module _ (n m : ℕ) where
   abbrev result : Scan → ReadLine

@@ -1,9 +1,10 @@
 -- The words of a line, byte by byte. Words stand between blanks, one blank between two; a line's numbers are its words.
-use Prim.Native.Nat.{ℕ, _+_, _*_, _-_, _/_, _%_, _^_, min}
+use Prim.Native.Nat.{ℕ, _+_, _-_, _/_, _%_, _^_, min}
 use mathlib.Core.Bool.{Bool, true, false, cond}
 use mathlib.Core.List.{List, [], _∷_}
 use lib.Dec.{ltb, leb, eqb}
 use lib.ListN.{set, replicate}
+use Rattle.word_value.specs.Digits.{grown}
 use Rattle.tick_row.specs.Row.{longestRow}
 use Rattle.tick_line.specs.declared.scan.Scan.{Scan}
 use Rattle.tick_line.specs.declared.scan.Stage.{Stage}
@@ -56,10 +57,6 @@ afterOther Blanks = Empty
 afterOther NoNumber = NoNumber
 afterOther Above = Above
 afterOther Empty = Empty
-
--- A value with one more digit; of a number above 4294967295 only that is kept.
-unfoldable pub grown : ℕ → ℕ → ℕ
-grown value digit = min (value * 10 + digit) 4294967296
 
 -- Each number of a line is 0 to 65535, the tenth, word 4, 0 to 4294967295.
 unfoldable pub mostOf : ℕ → ℕ

@@ -1,9 +1,10 @@
 -- What a line is, by its words: what is read of a whole line, with no steps from byte to byte (law `line-by-words`).
-use Prim.Native.Nat.{ℕ, _+_, _*_, _-_, _/_, _%_}
-use mathlib.Core.Bool.{Bool, true, false, cond, _&&_, not}
+use Prim.Native.Nat.{ℕ, _+_, _/_, _%_}
+use mathlib.Core.Bool.{cond, not}
 use mathlib.Core.List.{List, [], _∷_, _++_}
-use lib.Dec.{ltb, leb, eqb}
+use lib.Dec.{ltb, eqb}
 use lib.ListN.{take, replicate}
+use Rattle.word_value.specs.Digits.{isEmpty, digitsAlone, valueOf}
 use Rattle.tick_row.specs.Row.{longestRow}
 use Rattle.tick_line.specs.declared.reading.Verdict.{Verdict}
 use Rattle.tick_line.specs.declared.reading.Verdict.the-variants.{NoNumber, Above, Empty}
@@ -41,29 +42,6 @@ withoutLastEmpty (word ∷ words) = unlessLast word (withoutLastEmpty words)
 -- The words of a line.
 unfoldable pub lineWords : List ℕ → List (List ℕ)
 lineWords line = withoutLastEmpty (wordsOf (withoutReturn line))
-
--- A word is empty where it has no byte.
-abbrev pub isEmpty : List ℕ → Bool
-isEmpty [] = true
-isEmpty (b ∷ word) = false
-
--- A digit is a byte from 48 to 57.
-abbrev pub isDigit : ℕ → Bool
-isDigit b = leb 48 b && leb b 57
-
--- A word is a number where it has digits alone.
-abbrev pub digitsAlone : List ℕ → Bool
-digitsAlone [] = true
-digitsAlone (b ∷ word) = isDigit b && digitsAlone word
-
--- A value with the digits of a word behind its own.
-abbrev pub followedBy : ℕ → List ℕ → ℕ
-followedBy value [] = value
-followedBy value (b ∷ word) = followedBy (value * 10 + (b - 48)) word
-
--- A word's value in decimal, however long it is.
-unfoldable pub valueOf : List ℕ → ℕ
-valueOf word = followedBy 0 word
 
 -- Of these words, behind so many others, the leftmost that is empty, no number or above its most decides, and is named by its number from 1.
 -- Where there is none, the words are counted.

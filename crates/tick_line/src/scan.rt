@@ -1,15 +1,12 @@
 // The words of a line, byte by byte.
 ghost use mathlib.Core.Path.{_≡_};
 ghost use Prim.Native.Nat.{_≤_};
-ghost use Rattle.tick_line.specs.Scan.{oneMore, grown, lineStart, inStage, inNumber, afterDigit, afterBlank, afterOther, mostOf, placeOf, withNumber, withDigit, ended, withBlank, withReturn, withOther, withByte, afterByte, closed};
+ghost use Rattle.tick_line.specs.Scan.{oneMore, lineStart, inStage, inNumber, afterDigit, afterBlank, afterOther, mostOf, placeOf, withNumber, withDigit, ended, withBlank, withReturn, withOther, withByte, afterByte, closed};
 
 // The largest tenth, and the largest of the other numbers.
 const MOST_TENTH: u64 = 4294967295;
 
 const MOST: u64 = 65535;
-
-// A number above every number of a line: digits that follow do not matter.
-const TOO_LARGE: u64 = 4294967296;
 
 // The tenth is the fourth word, behind three others; its halves have the row's places 3 and 4.
 const TENTH_WORD: u64 = 4;
@@ -134,17 +131,6 @@ fn after_other(stage: Stage) -> Stage
     }
 }
 
-// A number's value with one more digit.
-fn grown(value: u64, digit: u8) -> u64
-    ensures { λ r. ⌜ r ≡ grown value digit ⌝ }
-{
-    if MOST_TENTH < value {
-        return TOO_LARGE;
-    }
-    let more = value * 10 + digit as u64;
-    if TOO_LARGE < more { TOO_LARGE } else { more }
-}
-
 // The most that a word of a line may be.
 pub fn most_of(word: u64) -> u64
     ensures { λ r. ⌜ r ≡ mostOf word ⌝ }
@@ -191,7 +177,7 @@ fn with_digit(s: Scan, digit: u8) -> Scan
     Scan {
         stage: after_digit(stage),
         returned: false,
-        value: grown(s.value, digit),
+        value: word_value::grown(s.value, digit),
         words: s.words,
         row,
     }

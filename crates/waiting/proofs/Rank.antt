@@ -16,12 +16,13 @@ use Rattle.lanes.specs.Intervals.{riseOf, laneTick}
 use Rattle.lanes.specs.Lanes.{laneOf, endingOf, lanesTick}
 use Rattle.loops.proofs.Cases.{by-test}
 use Rattle.lanes.proofs.LaneLaws.{Within, rise-min, lane-in, offset-ticked, last-ticked}
-use Rattle.release.specs.Cycle.{roundedUp, offsetTicks}
+use Rattle.rounding.specs.Up.{roundedUp}
+use Rattle.rounding.proofs.UpLaws.{up-most, up-least, up-grows}
+use Rattle.release.specs.Cycle.{offsetTicks}
 use Rattle.release.specs.Release.{anyGreen, mayRelease, releasedOf, releaseOf}
 use Rattle.release.specs.Found.{ReadyLane}
 use Rattle.turns.specs.Turn.{turns}
 use Rattle.turns.proofs.TurnLaws.{turns-in, turns-most, nearer}
-use Rattle.release.proofs.CycleLaws.{up-most, up-least, up-grows}
 use Rattle.release.proofs.ReleaseLaws.{none-released, lane-stays, last-released, released-in, none-found}
 use Rattle.release.proofs.FoundLaws.{possible, found}
 use Rattle.group.proofs.RangeLaws.{LanesGood, lanes-keep, lanes-release}

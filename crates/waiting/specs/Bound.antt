@@ -4,7 +4,7 @@ use Prim.Native.Nat.{ℕ, _+_, _-_, _*_, max}
 use mathlib.Core.Bool.{cond}
 use lib.Dec.{eqb}
 use Rattle.timings.specs.declared.Timings.{Timings}
-use Rattle.release.specs.Cycle.{roundedUp}
+use Rattle.rounding.specs.Up.{roundedUp}
 
 -- "S is G under mutual exclusion, and C ÷ n rounded up under fractional offset."
 unfoldable pub turnTicks : Timings → ℕ → ℕ

@@ -19,7 +19,8 @@ use Rattle.group.specs.Intervals.{ageOf, timeOf, successorOf, nextInterval}
 use Rattle.group.specs.Range.{colourSpoilt, laneSpoilt, laneKept, laneSpoiltAt, lanesSpoilt, groupSpoilt}
 use Rattle.lanes.specs.Intervals.{riseOf, passagesOf, greenEnds, greenAt, yellowAt, laneTick, hasBeenRed}
 use Rattle.lanes.specs.Lanes.{laneOf, lanesOf, endingOf, laneTickAt, lanesTick, laneEntered, lanesEntered}
-use Rattle.release.specs.Cycle.{toNearest, cycleTicks, roundedUp, offsetTicks}
+use Rattle.rounding.specs.Up.{roundedUp}
+use Rattle.release.specs.Cycle.{toNearest, cycleTicks, offsetTicks}
 use Rattle.release.specs.Release.{isReady, readyAt, anyGreen, mayRelease, releasedOf, greenIf, releaseOf}
 use Rattle.bypass.specs.Bypass.{laterOf, isTimeUp, beginsAt, endsAt, keptOf, markOf, timerOf, bypassOf}
 use Rattle.bypass.specs.Lanes.{placeOf, priorityOf, hasPassed, endingsOf, otherNotRed, othersRed, releasedFor, doingOf}

@@ -1,7 +1,9 @@
 -- The buffer is as long as the sheet, and so the sheet is all of it.
-use Rattle.rate_sheet.proofs.SheetLaws.{whole}
+use Rattle.rate_sheet.proofs.SheetLaws.{sheet-length}
+use Rattle.text.proofs.PutLaws.{put-whole}
 use denote.Ref.{now}
-use mathlib.Core.Path.{_≡_}
+use mathlib.Core.Path.{_≡_, sym, _∙_}
+use native.Mathlib.Omega.{arith}
 use borrow.Author.Needs.{needs}
 use lib.ListN.{length}
 use Rattle.rate_sheet.proofs.fill_sheet.Statement.{statement}
@@ -14,7 +16,7 @@ returns : tie.Need-returns
 returns c =
     let a = c .before .before .args in
     let l : length (now (a .out)) ≡ 28953 = search needs in
-    whole l (c .put-sheet .ensures)
+    put-whole (omega (arith, l)) (l ∙ sym sheet-length) (c .put-sheet .ensures)
 
 pub fill-sheet-spec : {M : Type 1} → statement M
 fill-sheet-spec = tie.close (tie.spec put-sheet-requires returns)

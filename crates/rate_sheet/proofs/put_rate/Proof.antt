@@ -11,20 +11,20 @@ put-decimal-requires c κs = search needs
 cycle-requires : tie.Need-cycle-requires
 cycle-requires c κs = search needs
 
-put-seconds-requires : tie.Need-put-seconds-requires
-put-seconds-requires c κs = search needs
+put-blank-and-seconds-requires : tie.Need-put-blank-and-seconds-requires
+put-blank-and-seconds-requires c κs = search needs
 
 cycle-requires-2 : tie.Need-cycle-requires-2
 cycle-requires-2 c κs = search needs
 
-put-seconds-requires-2 : tie.Need-put-seconds-requires-2
-put-seconds-requires-2 c κs = search needs
+put-blank-and-seconds-requires-2 : tie.Need-put-blank-and-seconds-requires-2
+put-blank-and-seconds-requires-2 c κs = search needs
 
 cycle-requires-3 : tie.Need-cycle-requires-3
 cycle-requires-3 c κs = search needs
 
-put-seconds-requires-3 : tie.Need-put-seconds-requires-3
-put-seconds-requires-3 c κs = search needs
+put-blank-and-seconds-requires-3 : tie.Need-put-blank-and-seconds-requires-3
+put-blank-and-seconds-requires-3 c κs = search needs
 
 put-byte-requires : tie.Need-put-byte-requires
 put-byte-requires c κs = search needs
@@ -41,8 +41,8 @@ returns c =
     let p = q .before .before .before .before .before in
     put-then (search needs) (p .put-decimal .ensures)
     (rw (← q .before .cycle .ensures .1, ← r .before .cycle2 .ensures .1, ← s .before .cycle3 .ensures .1)
-    (λ l. put-then l (q .put-seconds .ensures)
-    (λ l. put-then l (r .put-seconds2 .ensures) (λ l. put-then l (s .put-seconds3 .ensures) (λ _. c .before .before .put-byte .ensures)))))
+    (λ l. put-then l (q .put-blank-and-seconds .ensures)
+    (λ l. put-then l (r .put-blank-and-seconds2 .ensures) (λ l. put-then l (s .put-blank-and-seconds3 .ensures) (λ _. c .before .before .put-byte .ensures)))))
 
 pub put-rate-spec : {M : Type 1} → statement M
 put-rate-spec =
@@ -50,11 +50,11 @@ put-rate-spec =
     (tie.spec
     put-decimal-requires
     cycle-requires
-    put-seconds-requires
+    put-blank-and-seconds-requires
     cycle-requires-2
-    put-seconds-requires-2
+    put-blank-and-seconds-requires-2
     cycle-requires-3
-    put-seconds-requires-3
+    put-blank-and-seconds-requires-3
     put-byte-requires
     same-length
     returns)

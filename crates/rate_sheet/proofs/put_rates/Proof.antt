@@ -1,6 +1,7 @@
 -- The loop's invariant: whatever puts the lines of the rates that are left puts all of them.
-use Rattle.rate_sheet.proofs.SheetLaws.{lines-turn, lines-end}
-use Rattle.rate_sheet.specs.Sheet.{linesFrom, rateLines}
+use Rattle.rate_sheet.specs.Sheet.{rateLine, rateLines}
+use Rattle.text.specs.Joined.{joined}
+use Rattle.text.proofs.JoinedLaws.{joined-turn, joined-end}
 use Rattle.text.proofs.PutLaws.{put-turn, put-within, put-nothing}
 use Rattle.text.specs.Put.{Put, farthest}
 use lib.ListN.{length}
@@ -16,7 +17,7 @@ Inv-loop out₀ at p₀ rate₀ out p rate =
     (150 ≤ rate)
     × (p ≤ farthest)
     × (length out ≡ length out₀)
-    × ((r : ℕ) (d : List ℕ) → Put out p (linesFrom rate (1801 - rate)) r d → Put out₀ at rateLines r d)
+    × ((r : ℕ) (d : List ℕ) → Put out p (joined rateLine rate (1801 - rate)) r d → Put out₀ at rateLines r d)
 
 abbrev μ-loop : tie.MeasureT-loop
 μ-loop out₀ at p₀ rate₀ out p rate = 1801 - rate
@@ -40,14 +41,14 @@ loop-again c =
       search needs,
       put-within (p .put-rate .ensures),
       search needs,
-      put-turn (search needs) (p .put-rate .ensures) (lines-turn (h .loop .rate) (search needs)) (h .loop .inv .3),
+      put-turn (search needs) (p .put-rate .ensures) (joined-turn rateLine 1801 (h .loop .rate) (search needs)) (h .loop .inv .3),
     )
 
 same-length : tie.Need-same-length Inv-loop μ-loop
 same-length c = search needs
 
 returns : tie.Need-returns Inv-loop μ-loop
-returns c = let h = c .before in h .loop .inv .3 _ _ (rw (lines-end (h .loop .rate) (search needs)) (put-nothing _ _ (h .loop .inv .1)))
+returns c = let h = c .before in h .loop .inv .3 _ _ (rw (joined-end rateLine 1801 (h .loop .rate) (search needs)) (put-nothing _ _ (h .loop .inv .1)))
 
 pub put-rates-spec : {M : Type 1} → statement M
 put-rates-spec =

@@ -1,16 +1,19 @@
 //! Document 01 in plain Rust, with the preemption, the nearest cycle, the plans past midnight, the bus bypass, the one cycle per tick, the
-//! holidays that move, the many ticks in one call and the speeds from loop pairs of document 02.
+//! holidays that move, the many ticks in one call, the speeds from loop pairs and the yellow times for slopes of document 02.
 //! `reference NAME` writes test inputs and what they should give:
 //!
 //! - `site-bounds stdin`, `site-bounds stdout`: the files of `crates/site_bounds`.
 //! - `call-cases stdin`, `call-cases stdout`: the files of `crates/call_cases`.
 //! - `call-cases tally`: how many of each kind are stored.
-//! - `random PROGRAM SEED FOLDER`: fresh cases of a seed for one of these two programs, as FOLDER/stdin, and what they give,
+//! - `yellow-cases stdin`, `yellow-cases stdout`: the files of `crates/yellow_cases`.
+//! - `random PROGRAM SEED FOLDER`: fresh cases of a seed for one of these three programs, as FOLDER/stdin, and what they give,
 //!   as FOLDER/stdout; prints how many of each kind they are.
 //! - `random timetable SEED FOLDER`: site files for the timetable program, FOLDER/0/site.bin and so on, and what it prints and explains of
 //!   all of them, as FOLDER/stdout and FOLDER/stderr.
 //! - `random replay SEED FOLDER`: the same for the replay program, with ticks, FOLDER/0/ticks and so on.
 //! - `random simulate SEED FOLDER`: the same for the simulate program, with tick records, FOLDER/0/ticks and so on.
+//! - `random yellow-sheet SEED FOLDER`: words for the yellow_sheet program, two for each call, as FOLDER/words, a byte of 0 behind each;
+//!   and what it writes of all calls in a row, as FOLDER/stdout and FOLDER/stderr.
 //! - `simulated-day stdin`: the site file of `crates/simulated_day`; `simulated-day`: what that program prints of the site file on
 //!   standard input, and what it explains; `simulated-day samples`: what it prints of the samples alone.
 //! - `day-records`: the ticks of that day at that site, as tick records.
@@ -22,6 +25,8 @@
 //! - `replay-cases stdin`, `replay-cases stdout`: the runs of `crates/replay_cases`, and what it prints.
 //! - `replay-files FOLDER`: the files that it reads.
 //! - `rate-sheet`: what `crates/rate_sheet` prints.
+//! - `yellow-sheet`: what `crates/yellow_sheet` prints.
+//! - `yellow-sheet WORD..`: what that program writes of these arguments, on both streams. They may be any bytes.
 //! - `release-check`: what `crates/release_check` prints.
 //! - `calendar-check`: what `crates/calendar_check` prints.
 //! - `paper-site`: the site file of `crates/timetable`.
@@ -56,6 +61,7 @@ mod random_cases;
 mod random_records;
 mod random_replay;
 mod random_simulate;
+mod random_yellow;
 mod rate_sheet;
 mod record;
 mod record_cases;
@@ -73,6 +79,7 @@ mod simulate;
 mod simulated_day;
 mod site;
 mod site_run;
+mod slope;
 mod speed_cases;
 mod speed_steps;
 mod speed_text;
@@ -88,8 +95,11 @@ mod timetable;
 mod timetable_files;
 mod timings;
 mod wanted;
+mod yellow_cases;
+mod yellow_sheet;
 
 use std::io::{Read, Result, Write};
+use std::os::unix::ffi::OsStrExt;
 use tally::Tally;
 
 /// Each case behind its length in two bytes.
@@ -105,6 +115,11 @@ fn cases_of(program: &str, seed: Option<u64>, tally: &mut Tally) -> (Vec<Vec<u8>
             let files = seed.map_or_else(files::bound_files, random_cases::files);
             let answers = files.iter().map(|file| site_run::answer(file, tally)).collect();
             (files, answers)
+        }
+        "yellow-cases" => {
+            let cases = seed.map_or_else(yellow_cases::cases, random_yellow::cases);
+            let answers = cases.iter().map(|case| yellow_cases::answer(case, tally)).collect();
+            (cases, answers)
         }
         _ => {
             let cases = seed.map_or_else(call_cases::cases, random_cases::call_cases);
@@ -147,12 +162,28 @@ fn simulate(file: &str) -> Result<()> {
     std::io::stderr().write_all(said.explanation.as_bytes())
 }
 
+/// The words behind `yellow-sheet`, if that is the first one, as bytes: they need not be UTF-8.
+fn yellow_words() -> Option<Vec<Vec<u8>>> {
+    let mut words = std::env::args_os().skip(1);
+    let first = words.next()?;
+    (first == "yellow-sheet").then(|| words.map(|word| word.as_bytes().to_vec()).collect())
+}
+
+fn yellow_sheet(words: &[Vec<u8>]) -> Result<()> {
+    let said = yellow_sheet::print(words);
+    std::io::stdout().write_all(said.output.as_bytes())?;
+    std::io::stderr().write_all(&said.explanation)
+}
+
 fn main() -> Result<()> {
+    if let Some(words) = yellow_words() {
+        return yellow_sheet(&words);
+    }
     let words: Vec<String> = std::env::args().skip(1).collect();
     let words: Vec<&str> = words.iter().map(String::as_str).collect();
     let mut out = std::io::stdout();
     match words[..] {
-        [program @ ("site-bounds" | "call-cases"), stream @ ("stdin" | "stdout")] => {
+        [program @ ("site-bounds" | "call-cases" | "yellow-cases"), stream @ ("stdin" | "stdout")] => {
             let (cases, answers) = cases_of(program, None, &mut Tally::default());
             out.write_all(if stream == "stdin" { framed(&cases) } else { answers.into_bytes() }.as_slice())
         }
@@ -161,7 +192,7 @@ fn main() -> Result<()> {
             cases_of("call-cases", None, tally);
             out.write_all(tally.print().as_bytes())
         }
-        ["random", program @ ("site-bounds" | "call-cases"), seed, folder] => {
+        ["random", program @ ("site-bounds" | "call-cases" | "yellow-cases"), seed, folder] => {
             let tally = &mut Tally::default();
             let (cases, answers) = cases_of(program, Some(seed.parse().expect("a seed")), tally);
             std::fs::write(format!("{folder}/stdin"), framed(&cases))?;
@@ -204,6 +235,20 @@ fn main() -> Result<()> {
                 stdout.extend(said.output);
                 stderr += &said.explanation;
             }
+            std::fs::write(format!("{folder}/stdout"), stdout)?;
+            std::fs::write(format!("{folder}/stderr"), stderr)?;
+            out.write_all(tally.print().as_bytes())
+        }
+        ["random", "yellow-sheet", seed, folder] => {
+            let tally = &mut Tally::default();
+            let (mut all_words, mut stdout, mut stderr) = (Vec::new(), String::new(), Vec::new());
+            for words in random_yellow::calls(seed.parse().expect("a seed")) {
+                let said = random_yellow::answer(&words, tally);
+                all_words.extend(words.iter().flat_map(|word| [&word[..], &[0]].concat()));
+                stdout += &said.output;
+                stderr.extend(said.explanation);
+            }
+            std::fs::write(format!("{folder}/words"), all_words)?;
             std::fs::write(format!("{folder}/stdout"), stdout)?;
             std::fs::write(format!("{folder}/stderr"), stderr)?;
             out.write_all(tally.print().as_bytes())

@@ -22,7 +22,7 @@ pub fn nearest(vehicles: u16, rate: u16) -> u16 {
 }
 
 /// Tenths as seconds with one decimal.
-fn seconds(tenths: u16) -> String {
+pub fn seconds(tenths: u16) -> String {
     format!("{}.{}", tenths / 10, tenths % 10)
 }
 

@@ -4,8 +4,9 @@ use native.Mathlib.Omega.{arith}
 use native.Mathlib.Nat.{mul-le-mul}
 use borrow.Author.Tests.{le-leb}
 use borrow.Author.Needs.{needs}
-use Rattle.release.specs.Cycle.{roundedUp, offsetTicks}
-use Rattle.release.proofs.CycleLaws.{up-by-product}
+use Rattle.rounding.specs.Up.{roundedUp}
+use Rattle.rounding.proofs.UpLaws.{up-by-product}
+use Rattle.release.specs.Cycle.{offsetTicks}
 use Rattle.release.proofs.cycle.offset_is_up.Statement.{statement}
 use Rattle.release.proofs.cycle.offset_is_up.Tie as tie
 

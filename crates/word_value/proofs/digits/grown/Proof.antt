@@ -1,9 +1,9 @@
 -- The smaller of the two.
 use native.Mathlib.Omega.{arith}
-use Rattle.tick_line.specs.Scan.{grown}
+use Rattle.word_value.specs.Digits.{grown}
 use borrow.Author.Needs.{needs}
-use Rattle.tick_line.proofs.scan.grown.Statement.{statement}
-use Rattle.tick_line.proofs.scan.grown.Tie as tie
+use Rattle.word_value.proofs.digits.grown.Statement.{statement}
+use Rattle.word_value.proofs.digits.grown.Tie as tie
 
 returns : tie.Need-returns
 unfolding grown

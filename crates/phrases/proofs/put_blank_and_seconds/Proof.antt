@@ -1,9 +1,9 @@
 -- The whole seconds, a point, and the tenth.
-use Rattle.rate_sheet.specs.Sheet.{secondsText}
+use Rattle.phrases.specs.Phrases.{blankAndSeconds}
 use Rattle.text.proofs.PutLaws.{put-then}
 use borrow.Author.Needs.{needs}
-use Rattle.rate_sheet.proofs.put_seconds.Statement.{statement}
-use Rattle.rate_sheet.proofs.put_seconds.Tie as tie
+use Rattle.phrases.proofs.put_blank_and_seconds.Statement.{statement}
+use Rattle.phrases.proofs.put_blank_and_seconds.Tie as tie
 
 cast-put-blank-and-decimal : tie.Need-cast-put-blank-and-decimal
 cast-put-blank-and-decimal c = search needs
@@ -24,15 +24,15 @@ same-length : tie.Need-same-length
 same-length c = search needs
 
 returns : tie.Need-returns
-unfolding secondsText
+unfolding blankAndSeconds
 returns c =
     let q = c .before .before .before .before .before .before in
     let p = q .before .before .before .before in
     put-then (search needs) (p .put-blank-and-decimal .ensures)
     (λ l. put-then l (q .put-byte .ensures) (λ _. c .before .before .put-decimal .ensures))
 
-pub put-seconds-spec : {M : Type 1} → statement M
-put-seconds-spec =
+pub put-blank-and-seconds-spec : {M : Type 1} → statement M
+put-blank-and-seconds-spec =
     tie.close
     (tie.spec
     cast-put-blank-and-decimal

@@ -1,0 +1,4 @@
+pub mod Slope
+pub mod Kinematic
+pub mod Claims
+pub mod Worked

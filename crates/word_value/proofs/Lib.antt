@@ -1,0 +1,3 @@
+pub mod DigitLaws
+pub mod SignLaws
+pub mod WordLaws
