@@ -9,7 +9,7 @@ fn put_trade_word(out: &mut [u8], at: usize, refusal: u8) -> usize
     text::put_item(
         out,
         at,
-        b",short file,wrong count,bad timing,bad entry,bad holiday,bad level,long file,bad clock,bad sample,bad command,small buffer,no period,spoilt state,spoilt site,bad record,bad slope",
+        b",short file,wrong count,bad timing,bad entry,bad holiday,bad level,long file,bad clock,bad sample,bad command,small buffer,no period,spoilt state,spoilt site,bad record,bad approach",
         refusal as usize,
     )
 }

@@ -12,7 +12,7 @@ use Rattle.rounding.specs.Up.{roundedUp}
 use Rattle.rounding.proofs.UpLaws.{up-most, up-enough}
 use Rattle.slope.specs.Slope.{ticksOf}
 use Rattle.slope.specs.Kinematic.{slowingOf, Enough, LeastEnough}
-use Rattle.slope.proofs.SlopeLaws.{Speed, tilted, tilted-is, tilted-least, ticks-by}
+use Rattle.slope.proofs.SlopeLaws.{Speed, tilted, tilted-is, tilted-least, divisor-least, ticks-by}
 
 out-of : (q k t : ℕ) → q * (k * t) ≡ k * (q * t)
 out-of q k t = sym (mul-assoc q k t) ∙ ap (λ (x : ℕ). x * t) (mul-comm q k) ∙ mul-assoc k q t
@@ -63,7 +63,7 @@ module _ (n : ℕ) (s : ℤ) (h : natAbs s ≤ 80) where
   pub least-of : LeastEnough (pos n) s (ticksOf (pos n) s)
   least-of =
       let b = 9 * tilted s in
-      let some : 1 ≤ b = omega (arith, tilted-least s h) in
+      let some : 1 ≤ b = divisor-least s h in
       rw (ticks-by (pos n) s h)
       (record {
         enough = enough (roundedUp (1250000 * n) b) (up-enough b some (1250000 * n));

@@ -83,7 +83,7 @@ pub ticks-by : (v s : ℤ) → natAbs s ≤ 80 → ticksOf v s ≡ 10 + roundedU
 unfolding ticksOf
 ticks-by v s h = rw (divisor-is s h)
 
-divisor-least : (s : ℤ) → natAbs s ≤ 80 → 1 ≤ 9 * tilted s
+pub divisor-least : (s : ℤ) → natAbs s ≤ 80 → 1 ≤ 9 * tilted s
 divisor-least s h = omega (arith, tilted-least s h)
 
 -- Within 10 to 60, as the site file's yellows.

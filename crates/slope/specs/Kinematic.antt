@@ -1,12 +1,14 @@
 -- Document 02, A10: "Use the ITE kinematic formula with 1 s reaction, 3.05 m/s² and 9.81 m/s²", in whole numbers and without a division.
 --
 -- The formula's time is reaction + speed ÷ (2 × deceleration + 2 × gravity × grade), in seconds. The speed is v × 1000 m in 3600 s, the
--- grade is s ÷ 1000, and y ticks are y ÷ 10 s. So y ticks are no shorter than the formula's time where
+-- grade is s ÷ 1000, and y ticks are y ÷ 10 s. What is divided by is positive for each grade in range, 4.5304 at -80. So y ticks are no
+-- shorter than the formula's time exactly if
 --
 --     v × 1000 ÷ 3600  ≤  (y ÷ 10 - 1) × (2 × 3.05 + 2 × 9.81 × s ÷ 1000).
 --
--- Both sides times 3600, times 10, times 100 (centimetres of a metre) and times 1000 (a grade in per mille) are whole numbers. They are 800
--- times those of the page's formula: 800 × 1250000 × v, and 800 × (y - 10) × 9 × (305000 + 981 × s).
+-- Both sides are whole numbers once they are multiplied by 3600 (seconds of an hour), 10 (ticks of a second), 100 (centimetres of a metre)
+-- and 1000 (per mille of the grade). They are then 800 times those of the page's formula: 800 × 1250000 × v, and
+-- 800 × (y - 10) × 9 × (305000 + 981 × s).
 use Prim.Native.Nat.{ℕ, _*_, _≤_}
 use lib.IntN.{ℤ, pos, _+ℤ_, _-ℤ_, _*ℤ_}
 use lib.Signed.{_≤ℤ_}
@@ -25,11 +27,11 @@ gravity = pos 981
 unfoldable pub slowingOf : ℤ → ℤ
 slowingOf s = pos 2 *ℤ (deceleration *ℤ pos 1000 +ℤ gravity *ℤ s)
 
--- So many ticks are no shorter than the formula's time.
+-- On a grade in range, so many ticks are no shorter than the formula's time.
 unfoldable pub Enough : ℤ → ℤ → ℕ → Type 0
 Enough v s y = (v *ℤ pos (1000 * 10 * 100 * 1000)) ≤ℤ ((pos y -ℤ reaction) *ℤ (slowingOf s *ℤ pos 3600))
 
--- "Rounded up": the least whole number of ticks that is no shorter than the formula's time. No other number is.
+-- "Rounded up": the least whole number of ticks that is no shorter than the formula's time. There is one such number (law `no-other`).
 pub record LeastEnough (v s : ℤ) (y : ℕ) : Type 0 where
   pub enough : Enough v s y
   pub least : (other : ℕ) → Enough v s other → y ≤ other

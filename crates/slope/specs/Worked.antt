@@ -12,9 +12,9 @@ pub record Worked : Type 0 where
   pub level : yellowAt (pos 40) (pos 0) ≡ given 29
   pub downhill : yellowAt (pos 40) (negℤ (pos 80)) ≡ given 35
   pub uphill : yellowAt (pos 40) (pos 80) ≡ given 25
-  -- The longest is the most that a site file takes.
-  pub longest : yellowAt (pos 80) (negℤ (pos 80)) ≡ given 60
-  pub shortest : yellowAt (pos 20) (pos 80) ≡ given 18
+  -- The longest, since it never grows with the grade and never falls with the speed: it is the most that a site file takes. The shortest.
+  pub fast-downhill : yellowAt (pos 80) (negℤ (pos 80)) ≡ given 60
+  pub slow-uphill : yellowAt (pos 20) (pos 80) ≡ given 18
   -- Just outside.
   pub too-slow : yellowAt (pos 19) (pos 0) ≡ refusedYellow
   pub too-fast : yellowAt (pos 81) (pos 0) ≡ refusedYellow

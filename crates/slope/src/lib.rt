@@ -3,7 +3,7 @@ ghost use mathlib.Core.Path.{_≡_};
 ghost use mathlib.Core.Bool.{true};
 ghost use Rattle.slope.specs.Slope.{isFrom, speedIn, gradeIn, divisorOf, ticksOf, refusedYellow, yellowAt};
 ghost use Rattle.slope.specs.Kinematic.{LeastEnough};
-ghost use Rattle.slope.specs.Claims.{Fits, NeverGrows, NeverFalls};
+ghost use Rattle.slope.specs.Claims.{InRange, Refuses, Fits, NeverGrows, NeverFalls};
 
 // The refusal, or 0, and the yellow in ticks, 0 where it is refused.
 pub struct Yellow {
@@ -12,7 +12,7 @@ pub struct Yellow {
 }
 
 // An approach speed or a grade out of range.
-pub const BAD_SLOPE: u8 = 16;
+pub const BAD_APPROACH: u8 = 16;
 
 // The approach speeds in km/h, and the grades in per mille, that are in range.
 pub const LEAST_SPEED: i64 = 20;
@@ -66,7 +66,7 @@ fn refused() -> Yellow
     ensures { λ r. ⌜ r ≡ refusedYellow ⌝ }
 {
     Yellow {
-        refusal: BAD_SLOPE,
+        refusal: BAD_APPROACH,
         ticks: 0,
     }
 }
@@ -74,10 +74,11 @@ fn refused() -> Yellow
 // The yellow of an approach speed in km/h and a grade in per mille, downhill negative.
 pub fn yellow_at(speed: i64, grade: i64) -> Yellow
     ensures is { λ r. ⌜ r ≡ yellowAt speed grade ⌝ }
-    ensures least { λ r. ⌜ (r .refusal ≡ 0 → LeastEnough speed grade (r .ticks)) ⌝ }
-    ensures fits { λ r. ⌜ (r .refusal ≡ 0 → Fits (r .ticks)) ⌝ }
-    ensures upward { λ r. ⌜ (r .refusal ≡ 0 → NeverGrows speed grade (r .ticks)) ⌝ }
-    ensures faster { λ r. ⌜ (r .refusal ≡ 0 → NeverFalls speed grade (r .ticks)) ⌝ }
+    ensures refuses { λ r. ⌜ Refuses speed grade r ⌝ }
+    ensures least { λ r. ⌜ (InRange speed grade → LeastEnough speed grade (r .ticks)) ⌝ }
+    ensures fits { λ r. ⌜ (InRange speed grade → Fits (r .ticks)) ⌝ }
+    ensures upward { λ r. ⌜ (InRange speed grade → NeverGrows speed grade (r .ticks)) ⌝ }
+    ensures faster { λ r. ⌜ (InRange speed grade → NeverFalls speed grade (r .ticks)) ⌝ }
 {
     if !speed_in(speed) {
         return refused();

@@ -1,7 +1,7 @@
 -- What is kept of a word is read from what is kept of its digits, by its first byte.
 use Prim.Native.Nat.{ℕ, zero, suc, _-_, _≤_, _<_}
 use mathlib.Core.Path.{_≡_, refl, ap}
-use mathlib.Core.Bool.{Bool, true, false, not, _&&_}
+use mathlib.Core.Bool.{Bool, true, false}
 use mathlib.Core.List.{List, [], _∷_}
 use native.Mathlib.Omega.{arith}
 use borrow.Author.Tests.{lt-ltb, le-ltb, eq-eqb, ne-eqb}
@@ -9,8 +9,8 @@ use lib.ListN.{length, getD, take, drop}
 use lib.Seq.{take-all}
 use Rattle.loops.proofs.Cases.{by-test}
 use Rattle.word_value.specs.declared.signed.Word.the-variants.{Empty, TooLong, Number}
-use Rattle.word_value.specs.Digits.{isEmpty, digitsAlone, valueOf, kept, digitsRead}
-use Rattle.word_value.specs.Signed.{ofSize, signedRead, wordRead, heldNumber, heldWord, ofDigits}
+use Rattle.word_value.specs.Digits.{isNumber, valueOf, kept, digitsRead}
+use Rattle.word_value.specs.Signed.{ofSize, signedRead, wordRead, keptNumber, keptWord, ofDigits}
 
 -- The bytes behind the first are all that are left of the word.
 pub rest : (word : List ℕ) → take (length word - 1) (drop 1 word) ≡ drop 1 word
@@ -19,17 +19,17 @@ rest (b ∷ word) = take-all (suc (length word) - 1) word (omega arith)
 
 pub value-kept : (word : List ℕ) → digitsRead word .value ≤ 4294967296
 unfolding digitsRead
-value-kept word = by-test (not (isEmpty word) && digitsAlone word) (λ e. rw e (omega arith)) (λ e. rw e (omega arith))
+value-kept word = by-test (isNumber word) (λ e. rw e (omega arith)) (λ e. rw e (omega arith))
 
-held-size : (negative : Bool) (n : ℕ) → ofSize negative (kept n) ≡ heldNumber (ofSize negative n)
-held-size false n = refl
-held-size true zero = refl
-held-size true (suc n) = refl
+kept-size : (negative : Bool) (n : ℕ) → ofSize negative (kept n) ≡ keptNumber (ofSize negative n)
+kept-size false n = refl
+kept-size true zero = refl
+kept-size true (suc n) = refl
 
-pub from-digits : (negative : Bool) (word : List ℕ) → ofDigits negative (digitsRead word) ≡ heldWord (signedRead negative word)
+pub from-digits : (negative : Bool) (word : List ℕ) → ofDigits negative (digitsRead word) ≡ keptWord (signedRead negative word)
 unfolding ofDigits digitsRead signedRead
 from-digits negative word =
-    by-test (not (isEmpty word) && digitsAlone word) (λ e. rw e (ap Number (held-size negative (valueOf word)))) (λ e. rw e refl)
+    by-test (isNumber word) (λ e. rw e (ap Number (kept-size negative (valueOf word)))) (λ e. rw e refl)
 
 -- A word of no byte, of too many, behind a minus sign, behind a plus sign, and behind no sign.
 pub of-none : (word : List ℕ) → length word ≡ 0 → wordRead word ≡ Empty

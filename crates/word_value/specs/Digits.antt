@@ -14,10 +14,14 @@ isEmpty (b ∷ word) = false
 abbrev pub isDigit : ℕ → Bool
 isDigit b = leb 48 b && leb b 57
 
--- A word is a number where it has digits alone.
+-- Whether each byte of a word is a digit; of an empty one that is so.
 abbrev pub digitsAlone : List ℕ → Bool
 digitsAlone [] = true
 digitsAlone (b ∷ word) = isDigit b && digitsAlone word
+
+-- A word is a number where it has digits alone, one at least.
+abbrev pub isNumber : List ℕ → Bool
+isNumber word = not (isEmpty word) && digitsAlone word
 
 -- A value with the digits of a word behind its own.
 abbrev pub followedBy : ℕ → List ℕ → ℕ
@@ -36,7 +40,6 @@ kept value = min value 4294967296
 unfoldable pub grown : ℕ → ℕ → ℕ
 grown value digit = kept (value * 10 + digit)
 
--- Whether a word has digits alone, one at least, and what is kept of its value.
+-- Whether a word is a number, and what is kept of its value.
 unfoldable pub digitsRead : List ℕ → Digits
-digitsRead word =
-    cond (not (isEmpty word) && digitsAlone word) (record { number = true; value = kept (valueOf word) }) (record { number = false; value = 0 })
+digitsRead word = cond (isNumber word) (record { number = true; value = kept (valueOf word) }) (record { number = false; value = 0 })

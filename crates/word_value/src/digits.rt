@@ -3,16 +3,16 @@ ghost use mathlib.Core.Path.{_≡_};
 ghost use mathlib.Core.List.{[]};
 ghost use Rattle.word_value.specs.Digits.{grown, digitsRead};
 
-// Whether a word is a number of digits alone, and its value up to that size; 0 where it is none.
+// Whether a word is a number, and what is kept of its value; 0 where it is none.
 pub struct Digits {
     pub number: bool,
     pub value: u64,
 }
 
-// A size above all that anybody asks for: digits that follow do not matter.
+// A value above this one counts as it, so that digits that follow do not matter.
 const TOO_LARGE: u64 = 4294967296;
 
-// A value with one more digit, up to that size.
+// A kept value with one more digit.
 pub fn grown(value: u64, digit: u8) -> u64
     ensures { λ r. ⌜ r ≡ grown value digit ⌝ }
 {

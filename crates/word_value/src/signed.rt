@@ -1,7 +1,7 @@
 // A word with a sign or none, and digits behind it.
 ghost use mathlib.Core.Path.{_≡_};
 ghost use Prim.Native.Nat.{_≤_};
-ghost use Rattle.word_value.specs.Signed.{ofDigits, heldWord, wordRead};
+ghost use Rattle.word_value.specs.Signed.{ofDigits, keptWord, wordRead};
 use crate::digits;
 use crate::digits::Digits;
 
@@ -31,7 +31,7 @@ fn of_digits(negative: bool, digits: Digits) -> Word
 
 // What a word says; a size above 4294967296 counts as that.
 pub fn read(word: &[u8]) -> Word
-    ensures { λ r. ⌜ r ≡ heldWord (wordRead (now (word .entry))) ⌝ }
+    ensures { λ r. ⌜ r ≡ keptWord (wordRead (now (word .entry))) ⌝ }
 {
     if word.len() == 0 {
         return Word::Empty;

@@ -1,8 +1,9 @@
-// Reads cases from standard input, each behind its length in two bytes: a speed and a grade, each five
-// numbers, a sign and a size, the size as four numbers, the highest first. With sign 0 the number is its
-// size, else -1 less its size. Prints of each the two numbers and what the call answers.
+// Reads cases from standard input, each behind its length in two bytes: a speed and a grade. Each is five
+// numbers, a sign and a k, which has four of them, the highest first: k where the sign is 0, else -1 - k.
+// Prints of each case the speed, the grade and what the call answers.
 ghost use Prim.Native.Nat.{_≤_};
 
+// 2^63: a k is below it.
 const HALF: u64 = 9223372036854775808;
 
 // Numbers i and i + 1 as one.
@@ -13,8 +14,8 @@ fn long_at(case: &[u8], i: usize) -> u64
     (numbers::word(case, i) as u64) * 65536 + (numbers::word(case, i + 1) as u64)
 }
 
-// A size of 2^63 or more counts from there.
-fn size_at(case: &[u8], i: usize) -> u64
+// One that is not below 2^63 counts from there.
+fn k_at(case: &[u8], i: usize) -> u64
     requires { ⌜ i ≤ 12 ⌝ }
     ensures { λ r. ⌜ r ≤ 9223372036854775807 ⌝ }
 {
@@ -24,11 +25,11 @@ fn size_at(case: &[u8], i: usize) -> u64
 fn number_at(case: &[u8], i: usize) -> i64
     requires { ⌜ i ≤ 10 ⌝ }
 {
-    let size = size_at(case, i + 1) as i64;
+    let k = k_at(case, i + 1) as i64;
     if numbers::word(case, i) == 0 {
-        return size;
+        return k;
     }
-    -1 - size
+    -1 - k
 }
 
 fn answer(case: &[u8]) {

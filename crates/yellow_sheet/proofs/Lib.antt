@@ -1,2 +1,2 @@
-pub mod HeldLaws
+pub mod KeptLaws
 pub mod SheetLaws

@@ -11,7 +11,7 @@ use Rattle.word_value.specs.declared.signed.Word.{Word}
 use Rattle.word_value.specs.declared.signed.Word.the-variants.{Empty, TooLong, NoNumber, Number}
 use Rattle.slope.specs.Slope.{yellowAt}
 
--- "The one yellow in seconds and in ticks, ready for a site file": the ticks stand in front, and a site's text does not read on behind a #.
+-- One yellow in ticks and in seconds, ready for a site's text: that has the ticks in front, and is not read behind a #.
 unfoldable pub ticksText : ℕ → List ℕ
 ticksText ticks = decimal ticks ++ (ascii " # ticks, yellow" ++ blankAndSeconds ticks)
 

@@ -1,6 +1,6 @@
 -- What the program writes on standard error of a speed and a grade, and of a number of arguments.
 use Prim.Native.Nat.{ℕ}
-use mathlib.Core.Bool.{cond}
+use mathlib.Core.Bool.{Bool, cond}
 use mathlib.Core.List.{List, [], _++_}
 use lib.Dec.{eqb}
 use lib.IntN.{ℤ}
@@ -33,28 +33,31 @@ wordLine name word TooLong = namedLine name (ascii " is longer than 4096 bytes\n
 wordLine name word NoNumber = noNumberLine name word
 wordLine name word (Number z) = []
 
--- Of each of the two that is no number its line, and how the program is used.
+-- Each of the two words that is no number gets its line; behind them stands how the program is used.
 unfoldable pub notNumbers : List ℕ → Word → List ℕ → Word → List ℕ
 notNumbers speed v grade s = wordLine (ascii "speed") speed v ++ (wordLine (ascii "grade") grade s ++ usageLine)
 
--- `bad slope: speed 081, allowed 20-80`.
+-- `bad approach: speed 081, allowed 20-80`.
 unfoldable pub rangeLine : List ℕ → List ℕ → ℤ → List ℕ → ℤ → List ℕ
 rangeLine name word low to high =
     openingText 16 ++ (givenText name word ++ (ascii ", allowed " ++ (signed low ++ (to ++ (signed high ++ ascii "\n")))))
 
--- The line of a speed, and of a grade, that is out of range.
-unfoldable pub speedRange : List ℕ → ℤ → List ℕ
-speedRange word v = cond (speedIn v) [] (rangeLine (ascii "speed") word leastSpeed (ascii "-") mostSpeed)
+-- A line, unless the number is in range.
+unfoldable pub unlessIn : Bool → List ℕ → List ℕ
+unlessIn good line = cond good [] line
 
-unfoldable pub gradeRange : List ℕ → ℤ → List ℕ
-gradeRange word s = cond (gradeIn s) [] (rangeLine (ascii "grade") word leastGrade (ascii " to ") mostGrade)
+-- The lines of a speed and of a grade; one that is in range has none.
+unfoldable pub rangesOf : List ℕ → ℤ → List ℕ → ℤ → List ℕ
+rangesOf speed v grade s =
+    unlessIn (speedIn v) (rangeLine (ascii "speed") speed leastSpeed (ascii "-") mostSpeed)
+    ++ unlessIn (gradeIn s) (rangeLine (ascii "grade") grade leastGrade (ascii " to ") mostGrade)
 
--- Where both words are numbers, of each that is out of range its line.
+-- Where both words are numbers, the lines of those that are out of range.
 abbrev pub complaintAt : List ℕ → ℤ → List ℕ → Word → List ℕ
 complaintAt speed v grade Empty = notNumbers speed (Number v) grade Empty
 complaintAt speed v grade TooLong = notNumbers speed (Number v) grade TooLong
 complaintAt speed v grade NoNumber = notNumbers speed (Number v) grade NoNumber
-complaintAt speed v grade (Number s) = speedRange speed v ++ gradeRange grade s
+complaintAt speed v grade (Number s) = rangesOf speed v grade s
 
 -- The words, and what they say.
 abbrev pub complaintOf : List ℕ → Word → List ℕ → Word → List ℕ

@@ -1,12 +1,12 @@
--- The districts' sheet: "a row for each speed and a column for each grade in steps of 10 per mille, in seconds with one decimal".
-use Prim.Native.Nat.{ℕ, _+_, _*_}
+-- The districts' sheet: a line for each speed, and on it the yellow at each grade in steps of 10 per mille, in seconds with one decimal.
+use Prim.Native.Nat.{ℕ, _+_, _-_}
 use mathlib.Core.List.{List, _++_}
-use lib.IntN.{ℤ, pos, _+ℤ_, _*ℤ_}
+use lib.IntN.{ℤ, pos, natAbs, _+ℤ_, _*ℤ_}
 use Rattle.text.specs.Ascii.{ascii}
 use Rattle.text.specs.Decimal.{decimal, signed}
 use Rattle.text.specs.Joined.{joined}
 use Rattle.phrases.specs.Phrases.{blankAndSeconds}
-use Rattle.slope.specs.Slope.{leastGrade, yellowAt}
+use Rattle.slope.specs.Slope.{leastSpeed, mostSpeed, leastGrade, yellowAt}
 
 -- The grade of a column, from 0: -80, -70 and so on.
 abbrev pub gradeOf : ℕ → ℤ
@@ -29,9 +29,9 @@ yellowTexts speed = joined (yellowText speed) 0 17
 unfoldable pub speedLine : ℕ → List ℕ
 speedLine speed = decimal speed ++ (yellowTexts speed ++ ascii "\n")
 
--- The lines of all speeds, 20 to 80.
+-- The lines of all speeds in range.
 abbrev pub speedLines : List ℕ
-speedLines = joined speedLine 20 61
+speedLines = joined speedLine (natAbs leastSpeed) (natAbs mostSpeed + 1 - natAbs leastSpeed)
 
 unfoldable pub sheetText : List ℕ
 sheetText = ascii "speed" ++ (gradeTexts ++ (ascii "\n" ++ speedLines))

@@ -1,10 +1,10 @@
 // What stands on standard error of words that are no speed or no grade, and of too many arguments.
 ghost use Rattle.text.specs.Put.{Put};
 ghost use Rattle.word_value.specs.Signed.{wordRead};
-ghost use Rattle.yellow_sheet.specs.Complaint.{usageLine, namedLine, givenText, noNumberLine, wordLine, notNumbers, rangeLine, speedRange, gradeRange, complaintAt, complaintOf, argumentsText, wrongCount};
+ghost use Rattle.yellow_sheet.specs.Complaint.{usageLine, namedLine, givenText, noNumberLine, wordLine, notNumbers, rangeLine, unlessIn, rangesOf, complaintAt, complaintOf, argumentsText, wrongCount};
 use word_value::Word;
 
-fn put_usage(out: &mut [u8], at: usize) -> usize
+pub fn put_usage(out: &mut [u8], at: usize) -> usize
     ensures { λ r. ⌜ Put (now (out .entry)) at usageLine r (now (out .exit)) ⌝ }
 {
     text::put_bytes(out, at, b"usage: yellow_sheet [SPEED GRADE]\n")
@@ -66,7 +66,7 @@ fn put_range(
 ) -> usize
     ensures { λ r. ⌜ Put (now (out .entry)) at (rangeLine (now (name .entry)) (now (word .entry)) low (now (to .entry)) high) r (now (out .exit)) ⌝ }
 {
-    let a = phrases::put_opening(out, at, slope::BAD_SLOPE);
+    let a = phrases::put_opening(out, at, slope::BAD_APPROACH);
     let b = put_given(out, a, name, word);
     let c = text::put_bytes(out, b, b", allowed ");
     let d = text::put_signed(out, c, low);
@@ -75,34 +75,46 @@ fn put_range(
     text::put_byte(out, f, b'\n')
 }
 
-fn put_speed_range(out: &mut [u8], at: usize, word: &[u8], speed: i64) -> usize
-    ensures { λ r. ⌜ Put (now (out .entry)) at (speedRange (now (word .entry)) speed) r (now (out .exit)) ⌝ }
+// The same, and nothing of a number that is in range.
+fn put_unless(
+    out: &mut [u8],
+    at: usize,
+    good: bool,
+    name: &[u8],
+    word: &[u8],
+    low: i64,
+    to: &[u8],
+    high: i64,
+) -> usize
+    ensures { λ r. ⌜ Put (now (out .entry)) at (unlessIn good (rangeLine (now (name .entry)) (now (word .entry)) low (now (to .entry)) high)) r (now (out .exit)) ⌝ }
 {
-    if slope::speed_in(speed) {
+    if good {
         return at;
     }
-    put_range(
+    put_range(out, at, name, word, low, to, high)
+}
+
+fn put_ranges(out: &mut [u8], speed: &[u8], v: i64, grade: &[u8], s: i64) -> usize
+    ensures { λ r. ⌜ Put (now (out .entry)) 0 (rangesOf (now (speed .entry)) v (now (grade .entry)) s) r (now (out .exit)) ⌝ }
+{
+    let swift = slope::speed_in(v);
+    let p = put_unless(
         out,
-        at,
+        0,
+        swift,
         b"speed",
-        word,
+        speed,
         slope::LEAST_SPEED,
         b"-",
         slope::MOST_SPEED,
-    )
-}
-
-fn put_grade_range(out: &mut [u8], at: usize, word: &[u8], grade: i64) -> usize
-    ensures { λ r. ⌜ Put (now (out .entry)) at (gradeRange (now (word .entry)) grade) r (now (out .exit)) ⌝ }
-{
-    if slope::grade_in(grade) {
-        return at;
-    }
-    put_range(
+    );
+    let steep = slope::grade_in(s);
+    put_unless(
         out,
-        at,
+        p,
+        steep,
         b"grade",
-        word,
+        grade,
         slope::LEAST_GRADE,
         b" to ",
         slope::MOST_GRADE,
@@ -114,10 +126,7 @@ fn put_at(out: &mut [u8], speed: &[u8], v: i64, grade: &[u8], said: Word) -> usi
     ensures { λ r. ⌜ Put (now (out .entry)) 0 (complaintAt (now (speed .entry)) v (now (grade .entry)) said) r (now (out .exit)) ⌝ }
 {
     match said {
-        Word::Number(s) => {
-            let p = put_speed_range(out, 0, speed, v);
-            put_grade_range(out, p, grade, s)
-        }
+        Word::Number(s) => put_ranges(out, speed, v, grade, s),
         Word::Empty => put_not_numbers(out, speed, Word::Number(v), grade, Word::Empty),
         Word::TooLong => put_not_numbers(out, speed, Word::Number(v), grade, Word::TooLong),
         Word::NoNumber => put_not_numbers(out, speed, Word::Number(v), grade, Word::NoNumber),

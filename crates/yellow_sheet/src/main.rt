@@ -9,9 +9,9 @@ use libc::STDERR_FILENO;
 use site_program::Asked;
 
 // A byte more than a word may have, so that one that is too long is seen to be.
-const ARGUMENT: usize = 4097;
+const ARGUMENT: usize = word_value::LONGEST_WORD + 1;
 
-// How many bytes of argument i stand in the buffer; of one that is too long as many as it has.
+// How many bytes of argument i stand in the buffer; of one that is longer, the buffer's length.
 fn argument(i: usize, word: &mut [u8]) -> usize
     ensures { λ r. ⌜ Counts r (now (word .exit)) ⌝ }
 {
@@ -40,9 +40,14 @@ fn print_one() {
 }
 
 fn print_help() {
-    site_program::write_out(
-        b"usage: yellow_sheet [SPEED GRADE]\nPrints the yellow in seconds for each approach speed, 20 to 80 km/h, and each grade, -80 to 80 per mille in steps of 10.\nDownhill is negative. With SPEED and GRADE it prints that one yellow in ticks and in seconds, as a line for a site's text.\ndocs/FORMATS.md describes both.\n",
+    let mut text = io::buffer();
+    let p = complaint::put_usage(&mut text, 0);
+    let n = text::put_bytes(
+        &mut text,
+        p,
+        b"Prints the yellow in seconds for each approach speed, 20 to 80 km/h, and each grade, -80 to 80 per mille in steps of 10.\nDownhill is negative. With SPEED and GRADE it prints that one yellow in ticks and in seconds, as a line for a site's text.\ndocs/FORMATS.md describes both.\n",
     );
+    site_program::write_front(&text, n);
 }
 
 fn print_wrong_count(count: usize) {

@@ -9,9 +9,9 @@ const COLUMNS: u16 = 17;
 
 const STEP: i64 = 10;
 
-const FIRST_SPEED: u16 = 20;
+const FIRST_SPEED: u16 = slope::LEAST_SPEED as u16;
 
-const LAST_SPEED: u16 = 80;
+const LAST_SPEED: u16 = slope::MOST_SPEED as u16;
 
 // The bytes of the sheet.
 const SHEET: usize = 4395;

@@ -11,7 +11,7 @@ use mir.Facts.{toZ-ofZ}
 use Rattle.rounding.proofs.UpLaws.{up-is}
 use Rattle.slope.specs.Slope.{divisorOf}
 use Rattle.slope.proofs.SizeLaws.{read-back}
-use Rattle.slope.proofs.SlopeLaws.{Speed, speed, grade-size, tilted, tilted-least, tilted-most, divisor-is, ticks-by}
+use Rattle.slope.proofs.SlopeLaws.{Speed, speed, grade-size, tilted, tilted-least, tilted-most, divisor-least, divisor-is, ticks-by}
 use Rattle.slope.proofs.ticks.Statement.{statement}
 use Rattle.slope.proofs.ticks.Tie as tie
 
@@ -36,7 +36,7 @@ below c =
     ∙ read-back (pos (9 * tilted s)) (omega (arith, tilted-most s h))
 
 some : (c : tie.After-divisor) → 1 ≤ 9 * tilted (c .before .args .grade)
-some c = omega (arith, tilted-least (c .before .args .grade) (in-range c))
+some c = divisor-least (c .before .args .grade) (in-range c)
 
 -- What the code divides.
 dividend : (c : tie.After-divisor) → ℕ

@@ -7,8 +7,8 @@ use mir.Facts.{toZ-ofZ}
 use Rattle.slope.specs.declared.Yellow.{Yellow}
 use Rattle.slope.specs.Slope.{speedIn, gradeIn, ticksOf, yellowAt}
 use Rattle.slope.specs.Kinematic.{LeastEnough}
-use Rattle.slope.specs.Claims.{Fits, NeverGrows, NeverFalls}
-use Rattle.slope.proofs.ClaimLaws.{given-least, given-fits, never-grows, never-falls}
+use Rattle.slope.specs.Claims.{InRange, Refuses, Fits, NeverGrows, NeverFalls}
+use Rattle.slope.proofs.ClaimLaws.{refuses, given-least, given-fits, never-grows, never-falls}
 use Rattle.slope.proofs.yellow_at.Statement.{statement}
 use Rattle.slope.proofs.yellow_at.Tie as tie
 
@@ -21,13 +21,14 @@ refused-requires c κs = search needs
 abbrev Promised : ℤ → ℤ → Yellow → Type 0
 Promised v s r =
     (r ≡ yellowAt v s)
-    × ((r .refusal ≡ 0 → LeastEnough v s (r .ticks))
-    × ((r .refusal ≡ 0 → Fits (r .ticks))
-    × ((r .refusal ≡ 0 → NeverGrows v s (r .ticks))
-    × (r .refusal ≡ 0 → NeverFalls v s (r .ticks)))))
+    × (Refuses v s r
+    × ((InRange v s → LeastEnough v s (r .ticks))
+    × ((InRange v s → Fits (r .ticks))
+    × ((InRange v s → NeverGrows v s (r .ticks))
+    × (InRange v s → NeverFalls v s (r .ticks))))))
 
 promised : (v s : ℤ) (r : Yellow) → r ≡ yellowAt v s → Promised v s r
-promised v s r e = rw e (refl, (given-least v s, (given-fits v s, (never-grows v s, never-falls v s))))
+promised v s r e = rw e (refl, (refuses v s, (given-least v s, (given-fits v s, (never-grows v s, never-falls v s)))))
 
 -- The two tests, of the numbers as they are read back.
 going : (c : tie.After-speed-in) → c .speed-in .result ≡ speedIn (c .before .args .speed)

@@ -1,4 +1,4 @@
--- -1 less a size is a number of the machine.
+-- -1 - k is a number of the machine.
 use Prim.Native.Nat.{ℕ, zero, suc, _≤_}
 use native.Mathlib.Omega.{arith}
 use borrow.Author.Needs.{needs}
@@ -13,14 +13,14 @@ less : (n : ℕ) → n ≤ 9223372036854775807 → SFits w64 (negsuc 0 -ℤ pos 
 less zero h = record { sfits = omega arith }
 less (suc n) h = record { sfits = omega arith }
 
-add-size-at : tie.Need-add-size-at
-add-size-at c = search needs
+add-k-at : tie.Need-add-k-at
+add-k-at c = search needs
 
-size-at-requires : tie.Need-size-at-requires
-size-at-requires c κs = search needs
+k-at-requires : tie.Need-k-at-requires
+k-at-requires c κs = search needs
 
-cast-size : tie.Need-cast-size
-cast-size c = search needs
+cast-k : tie.Need-cast-k
+cast-k c = search needs
 
 word-requires : tie.Need-word-requires
 word-requires c κs = search needs
@@ -29,7 +29,7 @@ returns : tie.Need-returns
 returns c = search needs
 
 sub-result : tie.Need-sub-result
-sub-result c = let s = c .before .before .size-at in rw (toZ-pos w64 {n = s .result} (omega (arith, s .ensures))) (less (s .result) (s .ensures))
+sub-result c = let s = c .before .before .k-at in rw (toZ-pos w64 {n = s .result} (omega (arith, s .ensures))) (less (s .result) (s .ensures))
 
 returns-2 : tie.Need-returns-2
 returns-2 c = search needs
@@ -37,4 +37,4 @@ returns-2 c = search needs
 pub number-at-spec : {M : Type 1} → statement M
 number-at-spec =
     tie.close
-    (tie.spec add-size-at size-at-requires cast-size word-requires returns sub-result returns-2)
+    (tie.spec add-k-at k-at-requires cast-k word-requires returns sub-result returns-2)

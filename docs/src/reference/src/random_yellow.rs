@@ -78,9 +78,10 @@ fn written(r: &mut Random, n: i64) -> Vec<u8> {
     format!("{sign}{}{}", "0".repeat(zeros), n.unsigned_abs()).into_bytes()
 }
 
-/// A number of many digits, about as many as 64 bits have or up to some hundred. Its last ones may be in range.
+/// A number of many digits, about as many as 64 bits have, up to some hundred, or about as many as a word may have. Its last ones may be in
+/// range.
 fn long_number(r: &mut Random) -> Vec<u8> {
-    let (short, long) = r.pick(&[(17, 22), (37, 41), (100, 500)]);
+    let (short, long) = r.pick(&[(17, 22), (37, 41), (100, 500), (4091, 4097)]);
     let many = r.from(short, long);
     let sign = r.pick(&["", "+", "-"]);
     let first = r.from(1, 9);

@@ -10,7 +10,7 @@ pub const SPEEDS: RangeInclusive<i64> = 20..=80;
 /// In per mille, downhill negative.
 pub const GRADES: RangeInclusive<i64> = -80..=80;
 /// Speed or grade out of range.
-pub const BAD_SLOPE: u8 = 16;
+pub const BAD_APPROACH: u8 = 16;
 
 // Fractions.
 
@@ -100,7 +100,7 @@ pub struct Yellow {
 
 pub fn yellow(speed: i64, grade: i64) -> Yellow {
     if !SPEEDS.contains(&speed) || !GRADES.contains(&grade) {
-        return Yellow { refusal: BAD_SLOPE, ticks: 0 };
+        return Yellow { refusal: BAD_APPROACH, ticks: 0 };
     }
     Yellow { refusal: 0, ticks: seconds(speed, grade).times(TICKS_OF_A_SECOND).rounded_up() as u16 }
 }

@@ -60,7 +60,7 @@ const FAR: [[i64; 6]; 7] = [
     [i64::MAX, i64::MAX - 1, i64::MAX - 79, i64::MIN, i64::MIN + 1, i64::MIN + 40],
 ];
 
-/// What is kept of a number that is cut, and the bits that are kept: in range of the speed, the grade or both.
+/// What a number becomes once it is cut to so many bits: a speed in range, a grade in range, or both.
 const KEPT: [i64; 6] = [20, 40, 80, 0, -1, -80];
 const BITS: [u32; 4] = [8, 16, 32, 48];
 

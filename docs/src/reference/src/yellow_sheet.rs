@@ -77,7 +77,7 @@ fn no_number(name: &str, word: &[u8]) -> Vec<u8> {
 
 /// A line about a word that is a number out of range.
 fn bad_slope(name: &str, word: &[u8], allowed: &str) -> Vec<u8> {
-    [b"bad slope: ", name.as_bytes(), b" ", word, b", allowed ", allowed.as_bytes(), b"\n"].concat()
+    [b"bad approach: ", name.as_bytes(), b" ", word, b", allowed ", allowed.as_bytes(), b"\n"].concat()
 }
 
 fn refused(refusal: u8, speed: (i64, &[u8]), grade: (i64, &[u8])) -> Said {

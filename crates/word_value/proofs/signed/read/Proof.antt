@@ -7,7 +7,7 @@ use borrow.Author.Needs.{needs}
 use denote.Ref.{now}
 use lib.ListN.{drop}
 use Rattle.word_value.specs.Digits.{digitsRead}
-use Rattle.word_value.specs.Signed.{heldWord, ofDigits}
+use Rattle.word_value.specs.Signed.{keptWord, ofDigits}
 use Rattle.word_value.proofs.WordLaws.{rest, value-kept, from-digits, of-none, of-many, behind-minus, behind-plus, behind-none}
 use Rattle.word_value.proofs.signed.read.Statement.{statement}
 use Rattle.word_value.proofs.signed.read.Tie as tie
@@ -45,7 +45,7 @@ returns-3 c =
     ∙ ap (ofDigits true) (c .before .digits-read .ensures)
     ∙ ap (λ (w : List ℕ). ofDigits true (digitsRead w)) (rest word)
     ∙ from-digits true (drop 1 word)
-    ∙ sym (ap heldWord (behind-minus word (p .before .before .if2 .left) (p .if3 .taken)))
+    ∙ sym (ap keptWord (behind-minus word (p .before .before .if2 .left) (p .if3 .taken)))
 
 sub-digits-read-2 : tie.Need-sub-digits-read-2
 sub-digits-read-2 c = search needs
@@ -71,7 +71,7 @@ returns-4 c =
     ∙ ap (ofDigits false) (c .before .digits-read2 .ensures)
     ∙ ap (λ (w : List ℕ). ofDigits false (digitsRead w)) (rest word)
     ∙ from-digits false (drop 1 word)
-    ∙ sym (ap heldWord (behind-plus word (p .before .before .before .if2 .left) (p .if4 .taken)))
+    ∙ sym (ap keptWord (behind-plus word (p .before .before .before .if2 .left) (p .if4 .taken)))
 
 digits-read-requires-3 : tie.Need-digits-read-requires-3
 digits-read-requires-3 c κs = search needs
@@ -87,7 +87,7 @@ returns-5 c =
     c .of-digits3 .ensures
     ∙ ap (ofDigits false) (c .before .digits-read3 .ensures)
     ∙ from-digits false word
-    ∙ sym (ap heldWord (behind-none word (p .before .before .before .before .if1 .left) (p .before .before .before .if2 .left) (p .before .if3 .left) (p .if4 .left)))
+    ∙ sym (ap keptWord (behind-none word (p .before .before .before .before .if1 .left) (p .before .before .before .if2 .left) (p .before .if3 .left) (p .if4 .left)))
 
 pub read-spec : {M : Type 1} → statement M
 read-spec =

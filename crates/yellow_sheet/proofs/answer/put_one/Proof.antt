@@ -3,7 +3,7 @@ use borrow.Author.Needs.{needs}
 use denote.Ref.{now}
 use Rattle.text.proofs.PutLaws.{put-as}
 use Rattle.word_value.specs.Signed.{wordRead}
-use Rattle.yellow_sheet.proofs.HeldLaws.{answer-held}
+use Rattle.yellow_sheet.proofs.KeptLaws.{answer-kept}
 use Rattle.yellow_sheet.proofs.answer.put_one.Tie as tie
 use Rattle.yellow_sheet.proofs.answer.put_one.Statement.{statement}
 
@@ -25,7 +25,7 @@ returns c =
     let g = p .before in
     let v = g .before in
     let a = v .before .before .before .before .before in
-    put-as (rw (v .read .ensures, g .read2 .ensures) (answer-held (wordRead (now (a .args .speed))) (wordRead (now (a .args .grade))))) (p .put-of-words .ensures)
+    put-as (rw (v .read .ensures, g .read2 .ensures) (answer-kept (wordRead (now (a .args .speed))) (wordRead (now (a .args .grade))))) (p .put-of-words .ensures)
 
 pub put-one-spec : {M : Type 1} → statement M
 put-one-spec =

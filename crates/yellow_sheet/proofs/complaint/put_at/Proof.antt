@@ -1,23 +1,18 @@
 -- By the grade.
-use mathlib.Core.Path.{_≡_, ap}
+use mathlib.Core.Path.{_≡_}
 use borrow.Author.Needs.{needs}
 use mir.Syntax.{w64}
 use mir.Val.{toZ, ofZ}
 use mir.Facts.{toZ-ofZ}
-use denote.Ref.{now}
-use Rattle.text.proofs.PutLaws.{put-then, put-as}
-use Rattle.yellow_sheet.specs.Complaint.{speedRange, gradeRange}
+use Rattle.text.proofs.PutLaws.{put-as}
 use Rattle.yellow_sheet.proofs.complaint.put_at.Tie as tie
 use Rattle.yellow_sheet.proofs.complaint.put_at.Statement.{statement}
 
 enum-known-said : tie.Need-enum-known-said
 enum-known-said c = search needs
 
-put-speed-range-requires : tie.Need-put-speed-range-requires
-put-speed-range-requires c κs = search needs
-
-put-grade-range-requires : tie.Need-put-grade-range-requires
-put-grade-range-requires c κs = search needs
+put-ranges-requires : tie.Need-put-ranges-requires
+put-ranges-requires c κs = search needs
 
 enum-told : tie.Need-enum-told
 enum-told c = search needs
@@ -42,16 +37,12 @@ same-length c = search needs
 
 returns : tie.Need-returns
 returns c =
-    let q = c .before .before in
-    let p = q .before .before .before .before in
-    let k = p .before .before in
+    let k = c .before .before .before .before in
     let g = k .before in
     let a = g .before .before .before .before .before in
     let z = g .said .given .0 .0 in
     let e : toZ w64 (ofZ w64 z) ≡ z = toZ-ofZ (record { sfits = k .known-told .given .0 .1 }) in
-    rw (g .said .given .1)
-    (put-then (search needs) (put-as (ap (speedRange (now (a .args .speed))) (toZ-ofZ (a .fits .v))) (p .put-speed-range .ensures))
-    (λ _. put-as (ap (gradeRange (now (a .args .grade))) e) (q .put-grade-range .ensures)))
+    rw (g .said .given .1) (put-as (rw (toZ-ofZ (a .fits .v), e)) (c .before .before .put-ranges .ensures))
 
 same-length-2 : tie.Need-same-length-2
 same-length-2 c = search needs
@@ -85,8 +76,7 @@ put-at-spec =
     tie.close
     (tie.spec
     enum-known-said
-    put-speed-range-requires
-    put-grade-range-requires
+    put-ranges-requires
     enum-told
     put-not-numbers-requires
     enum-told-2

@@ -3,7 +3,7 @@ use borrow.Author.Needs.{needs}
 use denote.Ref.{now}
 use Rattle.text.proofs.PutLaws.{put-as}
 use Rattle.word_value.specs.Signed.{wordRead}
-use Rattle.yellow_sheet.proofs.HeldLaws.{complaint-held}
+use Rattle.yellow_sheet.proofs.KeptLaws.{complaint-kept}
 use Rattle.yellow_sheet.proofs.complaint.put_complaint.Tie as tie
 use Rattle.yellow_sheet.proofs.complaint.put_complaint.Statement.{statement}
 
@@ -27,7 +27,7 @@ returns c =
     let a = v .before .before .before .before .before in
     let speed = now (a .args .speed) in
     let grade = now (a .args .grade) in
-    put-as (rw (v .read .ensures, g .read2 .ensures) (complaint-held speed (wordRead speed) grade (wordRead grade))) (p .put-of-words .ensures)
+    put-as (rw (v .read .ensures, g .read2 .ensures) (complaint-kept speed (wordRead speed) grade (wordRead grade))) (p .put-of-words .ensures)
 
 pub put-complaint-spec : {M : Type 1} → statement M
 put-complaint-spec =
