@@ -1,4 +1,3 @@
 pub mod Longest
-pub mod Names
 pub mod NextStart
 pub mod Turns

@@ -11,27 +11,22 @@ use lib.ListN.{length, length-append}
 use Rattle.text.specs.Decimal.{decimal}
 use Rattle.text.proofs.DecimalLaws.{tens, decimal-most}
 use Rattle.phrases.specs.Phrases.{refusalLine}
-use Rattle.phrases.proofs.DayNames.{name-most, day-name-most}
+use Rattle.phrases.proofs.DayNames.{day-name-most}
+use Rattle.entry_text.proofs.Names.{timed-most}
 use Rattle.plan.specs.declared.Entry.{Entry}
 use Rattle.plan.specs.Entry.{entryOf, onDay}
 use Rattle.site.specs.declared.Site.{Site}
 use Rattle.site.specs.declared.ReadSite.{ReadSite}
 use Rattle.site.specs.Record.{spoiltSite}
 use Rattle.site.proofs.RowLaws.{entries-most, entry-rate-most, entry-table-most}
-use Rattle.listing.specs.Timetable.{modeNames, modeName, lineOf, lineIf, startingAt, minutesFrom, daysFrom, timetableOf, printedOf, longestText}
-
-mode-name-most : (mode : ℕ) → length (modeName mode) ≤ 5
-unfolding modeName
-mode-name-most mode = name-most 5 [] modeNames (omega arith) refl mode
+use Rattle.listing.specs.Timetable.{lineOf, lineIf, startingAt, minutesFrom, daysFrom, timetableOf, printedOf, longestText}
 
 -- One line.
 line-most : (day filed : ℕ) (e : Entry) → e .rate ≤ 1800 → e .table ≤ 4 → (length (decimal filed) ≤ 1 → length (lineOf day e filed) ≤ 25) × (length (decimal filed) ≤ 2 → length (lineOf day e filed) ≤ 26)
 unfolding lineOf
 line-most day filed e r t =
     let a = day-name-most day in
-    let b = mode-name-most (e .mode) in
-    let c = decimal-most 3 (e .rate) (omega arith) in
-    let d = decimal-most 0 (e .table) (omega arith) in
+    let b = timed-most e r t in
     (λ f. simp length-append (omega arith), λ f. simp length-append (omega arith))
 
 -- What a refused file prints.

@@ -1,35 +1,21 @@
 -- Document 01, 'Worked runs': what the timetable program prints. "Per day type in bit order, entries by start, equal starts as filed: day,
 -- start as hh:mm, mode, rate, table, place in the file from 1, one blank between."
-use Prim.Native.Nat.{ℕ, zero, suc, _+_, _*_, _/_, _%_}
+use Prim.Native.Nat.{ℕ, zero, suc, _+_, _*_}
 use mathlib.Core.Bool.{cond}
-use mathlib.Core.List.{List, [], _∷_, _++_}
+use mathlib.Core.List.{List, [], _++_}
 use lib.Dec.{eqb}
-use lib.ListN.{getD}
 use Rattle.text.specs.Ascii.{ascii}
-use Rattle.text.specs.Decimal.{twoDigits}
 use Rattle.phrases.specs.Phrases.{dayName, blankAndDecimal, refusalLine}
+use Rattle.entry_text.specs.EntryText.{timedText}
 use Rattle.plan.specs.declared.Entry.{Entry}
 use Rattle.plan.specs.Entry.{entryOf, dayTypes, onDay}
 use Rattle.site.specs.declared.Site.{Site}
 use Rattle.site.specs.declared.ReadSite.{ReadSite}
 use Rattle.site.specs.Reading.{readOf}
 
-abbrev pub modeNames : List (List ℕ)
-modeNames = ascii "dark" ∷ ascii "green" ∷ ascii "fixed" ∷ ascii "resp" ∷ []
-
-unfoldable pub modeName : ℕ → List ℕ
-modeName mode = getD modeNames mode []
-
--- A minute of the day as hh:mm.
-abbrev pub clockText : ℕ → List ℕ
-clockText minute = twoDigits (minute / 60) ++ (ascii ":" ++ twoDigits (minute % 60))
-
-abbrev pub numbersText : Entry → ℕ → List ℕ
-numbersText e filed = blankAndDecimal (e .rate) ++ (blankAndDecimal (e .table) ++ (blankAndDecimal filed ++ ascii "\n"))
-
 -- An entry's line on one day; it is the filed-th of the file.
 unfoldable pub lineOf : ℕ → Entry → ℕ → List ℕ
-lineOf day e filed = dayName day ++ (ascii " " ++ (clockText (e .start) ++ (ascii " " ++ (modeName (e .mode) ++ numbersText e filed))))
+lineOf day e filed = dayName day ++ (ascii " " ++ (timedText e ++ (blankAndDecimal filed ++ ascii "\n")))
 
 -- Its line, if it is an entry of that day and starts at that minute.
 unfoldable pub lineIf : ℕ → ℕ → Entry → ℕ → List ℕ

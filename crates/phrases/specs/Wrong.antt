@@ -8,11 +8,11 @@ use Rattle.text.specs.Decimal.{decimal}
 use Rattle.text.specs.Items.{item}
 use Rattle.phrases.specs.Phrases.{blankAndDecimal}
 
--- Document 01, 'Refusals': the trade words of refusals 1 to 14. Document 02 has none for 15 and 16; theirs are ours. Item 0, of no refusal,
+-- Document 01, 'Refusals': the trade words of refusals 1 to 14. Document 02 has none for 15 to 17; theirs are ours. Item 0, of no refusal,
 -- is empty.
 unfoldable pub tradeWord : ℕ → List ℕ
 tradeWord refusal =
-    item (ascii ",short file,wrong count,bad timing,bad entry,bad holiday,bad level,long file,bad clock,bad sample,bad command,small buffer,no period,spoilt state,spoilt site,bad record,bad approach")
+    item (ascii ",short file,wrong count,bad timing,bad entry,bad holiday,bad level,long file,bad clock,bad sample,bad command,small buffer,no period,spoilt state,spoilt site,bad record,bad approach,too many entries")
     refusal
 
 -- How a line begins that says what is wrong: `bad entry: `.

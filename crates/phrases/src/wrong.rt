@@ -2,14 +2,14 @@
 ghost use Rattle.text.specs.Put.{Put};
 ghost use Rattle.phrases.specs.Wrong.{tradeWord, openingText, rangeText, allowedText, notAllowedText};
 
-// The trade word of a refusal, 1 to 16.
+// The trade word of a refusal, 1 to 17.
 fn put_trade_word(out: &mut [u8], at: usize, refusal: u8) -> usize
     ensures { λ r. ⌜ Put (now (out .entry)) at (tradeWord refusal) r (now (out .exit)) ⌝ }
 {
     text::put_item(
         out,
         at,
-        b",short file,wrong count,bad timing,bad entry,bad holiday,bad level,long file,bad clock,bad sample,bad command,small buffer,no period,spoilt state,spoilt site,bad record,bad approach",
+        b",short file,wrong count,bad timing,bad entry,bad holiday,bad level,long file,bad clock,bad sample,bad command,small buffer,no period,spoilt state,spoilt site,bad record,bad approach,too many entries",
         refusal as usize,
     )
 }

@@ -3,6 +3,7 @@ ghost use mathlib.Core.Path.{_≡_};
 ghost use Prim.Native.Nat.{_≤_};
 ghost use lib.ListN.{length};
 ghost use Rattle.ranges.specs.Sections.{mostOf};
+ghost use Rattle.ranges.specs.declared.Section.the-variants.{Entries};
 ghost use Rattle.site.specs.Record.{spoiltOf, spoiltSite};
 ghost use Rattle.site.specs.Named.{timingsOf, shapeOf};
 use ranges::Section;
@@ -95,6 +96,13 @@ fn spoilt_section(section: Section, count: u16, v: &[u16]) -> bool
     !zeros_beyond
 }
 
+// Whether no file could give this plan: its rows, and how many entries.
+pub fn spoilt_plan(plan: &[u16; ranges::MOST_ENTRY_NUMBERS], entries: u16) -> bool
+    ensures { λ r. ⌜ r ≡ spoiltOf Entries entries (now (plan .entry)) ⌝ }
+{
+    spoilt_section(Section::Entries, entries, plan)
+}
+
 // Whether no file could give this record.
 pub fn spoilt(site: Site) -> bool
     ensures { λ r. ⌜ r ≡ spoiltSite site ⌝ }
@@ -104,7 +112,7 @@ pub fn spoilt(site: Site) -> bool
         return true;
     }
     let plan = site.plan;
-    if spoilt_section(Section::Entries, site.entries, &plan) {
+    if spoilt_plan(&plan, site.entries) {
         return true;
     }
     let dates = site.dates;

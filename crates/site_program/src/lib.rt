@@ -7,6 +7,7 @@ pub use arguments::asked_by;
 ghost use mathlib.Core.Path.{_≡_};
 ghost use Prim.Native.Nat.{_≤_};
 ghost use lib.ListN.{length};
+ghost use Rattle.io.specs.Counts.{Counts};
 use libc::STDERR_FILENO;
 use libc::STDOUT_FILENO;
 
@@ -79,10 +80,10 @@ fn print_no_option(argument: &[u8], usage: &[u8]) {
     io::write_all(STDERR_FILENO, usage);
 }
 
-fn print_too_many(count: usize, usage: &[u8]) {
+// Another number of arguments than is wanted.
+pub fn print_wanted(count: usize, wanted: &[u8], usage: &[u8]) {
     let mut text = io::buffer();
-    let p = text::put_decimal(&mut text, 0, count as u64);
-    let n = text::put_bytes(&mut text, p, b" arguments, at most 1 wanted\n");
+    let n = phrases::put_wanted(&mut text, 0, count, wanted);
     write_error(STDERR_FILENO, &text, n);
     io::write_all(STDERR_FILENO, usage);
 }
@@ -111,15 +112,20 @@ fn default_name(name: &mut [u8]) -> AskedSite
     }
 }
 
-// The site file that the arguments ask for; its name is put in the front of a buffer. Help is
-// printed, and arguments that are wrong are reported.
-pub fn asked_site(usage: &[u8], help: &[u8], name: &mut [u8]) -> AskedSite
+// Gives the name of n bytes that arguments ask for, or prints the help that they ask for, or reports what is wrong with them.
+fn answered(
+    asked: Asked,
+    count: usize,
+    n: usize,
+    error: i32,
+    usage: &[u8],
+    help: &[u8],
+    name: &mut [u8],
+) -> AskedSite
+    requires { ⌜ Counts n (now name) ⌝ }
     ensures { λ r. ⌜ r .count ≤ length (now (name .exit)) ⌝ }
 {
-    let count = arguments_given();
-    let n = os::arg(1, name);
-    let error = os::errno();
-    match asked_by(count, &name[..n]) {
+    match asked {
         Asked::Default => default_name(name),
         Asked::Named => AskedSite {
             given: true,
@@ -139,8 +145,30 @@ pub fn asked_site(usage: &[u8], help: &[u8], name: &mut [u8]) -> AskedSite
             nothing_asked()
         }
         Asked::TooMany => {
-            print_too_many(count, usage);
+            print_wanted(count, b"at most 1", usage);
             nothing_asked()
         }
     }
+}
+
+// The site file that the arguments ask for; its name is put in the front of a buffer. Help is
+// printed, and arguments that are wrong are reported.
+pub fn asked_site(usage: &[u8], help: &[u8], name: &mut [u8]) -> AskedSite
+    ensures { λ r. ⌜ r .count ≤ length (now (name .exit)) ⌝ }
+{
+    let count = arguments_given();
+    let n = os::arg(1, name);
+    let error = os::errno();
+    let asked = asked_by(count, &name[..n]);
+    answered(asked, count, n, error, usage, help, name)
+}
+
+// The same of argument i, one of several that each name a site file.
+pub fn asked_name(i: usize, usage: &[u8], help: &[u8], name: &mut [u8]) -> AskedSite
+    ensures { λ r. ⌜ r .count ≤ length (now (name .exit)) ⌝ }
+{
+    let n = os::arg(i, name);
+    let error = os::errno();
+    let asked = asked_by(1, &name[..n]);
+    answered(asked, 1, n, error, usage, help, name)
 }

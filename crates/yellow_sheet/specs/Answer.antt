@@ -6,7 +6,7 @@ use lib.Dec.{eqb}
 use lib.IntN.{ℤ}
 use Rattle.text.specs.Ascii.{ascii}
 use Rattle.text.specs.Decimal.{decimal, signed}
-use Rattle.phrases.specs.Phrases.{blankAndSeconds}
+use Rattle.phrases.specs.Phrases.{blankAndSeconds, refusedLine}
 use Rattle.word_value.specs.declared.signed.Word.{Word}
 use Rattle.word_value.specs.declared.signed.Word.the-variants.{Empty, TooLong, NoNumber, Number}
 use Rattle.slope.specs.Slope.{yellowAt}
@@ -17,9 +17,6 @@ ticksText ticks = decimal ticks ++ (ascii " # ticks, yellow" ++ blankAndSeconds 
 
 unfoldable pub yellowLine : ℤ → ℤ → ℕ → List ℕ
 yellowLine v s ticks = ticksText ticks ++ (ascii " s at " ++ (signed v ++ (ascii " km/h and " ++ (signed s ++ ascii " per mille\n"))))
-
-unfoldable pub refusedLine : ℕ → List ℕ
-refusedLine refusal = ascii "refused " ++ (decimal refusal ++ ascii "\n")
 
 unfoldable pub answerTo : ℤ → ℤ → List ℕ
 answerTo v s = cond (eqb (yellowAt v s .refusal) 0) (yellowLine v s (yellowAt v s .ticks)) (refusedLine (yellowAt v s .refusal))

@@ -2,10 +2,10 @@
 use Prim.Native.Nat.{ℕ}
 use mathlib.Core.Bool.{Bool, cond}
 use mathlib.Core.List.{List, [], _++_}
-use lib.Dec.{eqb}
 use lib.IntN.{ℤ}
 use Rattle.text.specs.Ascii.{ascii}
-use Rattle.text.specs.Decimal.{decimal, signed}
+use Rattle.text.specs.Decimal.{signed}
+use Rattle.phrases.specs.Phrases.{wantedLine}
 use Rattle.phrases.specs.Wrong.{openingText}
 use Rattle.word_value.specs.declared.signed.Word.{Word}
 use Rattle.word_value.specs.declared.signed.Word.the-variants.{Empty, TooLong, NoNumber, Number}
@@ -66,9 +66,6 @@ complaintOf speed TooLong grade s = notNumbers speed TooLong grade s
 complaintOf speed NoNumber grade s = notNumbers speed NoNumber grade s
 complaintOf speed (Number v) grade s = complaintAt speed v grade s
 
-unfoldable pub argumentsText : ℕ → List ℕ
-argumentsText count = cond (eqb count 1) (ascii " argument") (ascii " arguments")
-
 -- `1 argument, none or 2 wanted`, `3 arguments, none or 2 wanted`.
 unfoldable pub wrongCount : ℕ → List ℕ
-wrongCount count = decimal count ++ (argumentsText count ++ (ascii ", none or 2 wanted\n" ++ usageLine))
+wrongCount count = wantedLine count (ascii "none or 2") ++ usageLine

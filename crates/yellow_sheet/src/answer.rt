@@ -1,7 +1,7 @@
 // What stands on standard output of one speed and one grade.
 ghost use Rattle.text.specs.Put.{Put};
 ghost use Rattle.word_value.specs.Signed.{wordRead};
-ghost use Rattle.yellow_sheet.specs.Answer.{ticksText, yellowLine, refusedLine, answerTo, answerAt, answerOf};
+ghost use Rattle.yellow_sheet.specs.Answer.{ticksText, yellowLine, answerTo, answerAt, answerOf};
 use word_value::Word;
 
 // The ticks, ready for a site's text, and behind the # what they are.
@@ -24,14 +24,6 @@ fn put_line(out: &mut [u8], at: usize, speed: i64, grade: i64, ticks: u16) -> us
     text::put_bytes(out, e, b" per mille\n")
 }
 
-fn put_refused(out: &mut [u8], at: usize, refusal: u8) -> usize
-    ensures { λ r. ⌜ Put (now (out .entry)) at (refusedLine refusal) r (now (out .exit)) ⌝ }
-{
-    let p = text::put_bytes(out, at, b"refused ");
-    let q = text::put_decimal(out, p, refusal as u64);
-    text::put_byte(out, q, b'\n')
-}
-
 fn put_answer(out: &mut [u8], speed: i64, grade: i64) -> usize
     ensures { λ r. ⌜ Put (now (out .entry)) 0 (answerTo speed grade) r (now (out .exit)) ⌝ }
 {
@@ -39,7 +31,7 @@ fn put_answer(out: &mut [u8], speed: i64, grade: i64) -> usize
     if yellow.refusal == 0 {
         return put_line(out, 0, speed, grade, yellow.ticks);
     }
-    put_refused(out, 0, yellow.refusal)
+    phrases::put_refused(out, 0, yellow.refusal)
 }
 
 // Nothing where the grade is no number.

@@ -1,7 +1,7 @@
 // What stands on standard error of words that are no speed or no grade, and of too many arguments.
 ghost use Rattle.text.specs.Put.{Put};
 ghost use Rattle.word_value.specs.Signed.{wordRead};
-ghost use Rattle.yellow_sheet.specs.Complaint.{usageLine, namedLine, givenText, noNumberLine, wordLine, notNumbers, rangeLine, unlessIn, rangesOf, complaintAt, complaintOf, argumentsText, wrongCount};
+ghost use Rattle.yellow_sheet.specs.Complaint.{usageLine, namedLine, givenText, noNumberLine, wordLine, notNumbers, rangeLine, unlessIn, rangesOf, complaintAt, complaintOf, wrongCount};
 use word_value::Word;
 
 pub fn put_usage(out: &mut [u8], at: usize) -> usize
@@ -156,20 +156,9 @@ pub fn put_complaint(out: &mut [u8], speed: &[u8], grade: &[u8]) -> usize
     )
 }
 
-fn put_arguments(out: &mut [u8], at: usize, count: usize) -> usize
-    ensures { λ r. ⌜ Put (now (out .entry)) at (argumentsText count) r (now (out .exit)) ⌝ }
-{
-    if count == 1 {
-        return text::put_bytes(out, at, b" argument");
-    }
-    text::put_bytes(out, at, b" arguments")
-}
-
 pub fn put_wrong_count(out: &mut [u8], count: usize) -> usize
     ensures { λ r. ⌜ Put (now (out .entry)) 0 (wrongCount count) r (now (out .exit)) ⌝ }
 {
-    let p = text::put_decimal(out, 0, count as u64);
-    let q = put_arguments(out, p, count);
-    let r = text::put_bytes(out, q, b", none or 2 wanted\n");
-    put_usage(out, r)
+    let p = phrases::put_wanted(out, 0, count, b"none or 2");
+    put_usage(out, p)
 }

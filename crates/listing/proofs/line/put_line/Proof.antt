@@ -1,7 +1,11 @@
--- The six parts of the line.
-use Rattle.listing.specs.Timetable.{lineOf}
-use Rattle.text.proofs.PutLaws.{put-then}
+-- One text behind the other.
+use Prim.Native.Nat.{_<_}
 use borrow.Author.Needs.{needs}
+use denote.Ref.{now}
+use lib.ListN.{length}
+use Rattle.text.specs.Put.{farthest}
+use Rattle.text.proofs.PutLaws.{put-then}
+use Rattle.listing.specs.Timetable.{lineOf}
 use Rattle.listing.proofs.line.put_line.Statement.{statement}
 use Rattle.listing.proofs.line.put_line.Tie as tie
 
@@ -11,17 +15,17 @@ put-day-name-requires c κs = search needs
 put-byte-requires : tie.Need-put-byte-requires
 put-byte-requires c κs = search needs
 
-put-clock-requires : tie.Need-put-clock-requires
-put-clock-requires c κs = search needs
+put-timed-requires : tie.Need-put-timed-requires
+put-timed-requires c κs = search needs
+
+put-blank-and-decimal-requires : tie.Need-put-blank-and-decimal-requires
+put-blank-and-decimal-requires c κs = search needs
 
 put-byte-requires-2 : tie.Need-put-byte-requires-2
 put-byte-requires-2 c κs = search needs
 
-put-mode-name-requires : tie.Need-put-mode-name-requires
-put-mode-name-requires c κs = search needs
-
-put-numbers-requires : tie.Need-put-numbers-requires
-put-numbers-requires c κs = search needs
+bounded : (c : tie.After-put-day-name) → length (now (c .before .before .before .args .out)) < farthest
+bounded c = search needs
 
 same-length : tie.Need-same-length
 same-length c = search needs
@@ -29,15 +33,15 @@ same-length c = search needs
 returns : tie.Need-returns
 unfolding lineOf
 returns c =
-    let t = c .before .before .before .before .before .before in
-    let s = t .before .before .before .before in
-    let r = s .before .before .before .before in
-    let q = r .before .before .before .before in
-    let p = q .before .before .before .before in
-    put-then (search needs) (p .put-day-name .ensures)
-    (λ l. put-then l (q .put-byte .ensures)
-    (λ l. put-then l (r .put-clock .ensures)
-    (λ l. put-then l (s .put-byte2 .ensures) (λ l. put-then l (t .put-mode-name .ensures) (λ _. c .before .before .put-numbers .ensures)))))
+    let f = c .before .before in
+    let e = f .before .before .before .before in
+    let d = e .before .before .before .before in
+    let b = d .before .before .before .before in
+    let a = b .before .before .before .before in
+    put-then (bounded a) (a .put-day-name .ensures)
+    (λ l. put-then l (b .put-byte .ensures)
+    (λ l. put-then l (d .put-timed .ensures)
+    (λ l. put-then l (e .put-blank-and-decimal .ensures) (λ _. f .put-byte2 .ensures))))
 
 pub put-line-spec : {M : Type 1} → statement M
 put-line-spec =
@@ -45,9 +49,8 @@ put-line-spec =
     (tie.spec
     put-day-name-requires
     put-byte-requires
-    put-clock-requires
+    put-timed-requires
+    put-blank-and-decimal-requires
     put-byte-requires-2
-    put-mode-name-requires
-    put-numbers-requires
     same-length
     returns)

@@ -9,22 +9,16 @@ use Rattle.yellow_sheet.specs.Complaint.{wrongCount}
 use Rattle.yellow_sheet.proofs.complaint.put_wrong_count.Statement.{statement}
 use Rattle.yellow_sheet.proofs.complaint.put_wrong_count.Tie as tie
 
-put-decimal-requires : tie.Need-put-decimal-requires
-put-decimal-requires c κs = search needs
+slice-aggregate-put-wanted : tie.Need-slice-aggregate-put-wanted
+slice-aggregate-put-wanted c = search needs
 
-put-arguments-requires : tie.Need-put-arguments-requires
-put-arguments-requires c κs = search needs
-
-slice-aggregate-put-bytes : tie.Need-slice-aggregate-put-bytes
-slice-aggregate-put-bytes c = search needs
-
-put-bytes-requires : tie.Need-put-bytes-requires
-put-bytes-requires c κs = search needs
+put-wanted-requires : tie.Need-put-wanted-requires
+put-wanted-requires c κs = search needs
 
 put-usage-requires : tie.Need-put-usage-requires
 put-usage-requires c κs = search needs
 
-bounded : (c : tie.After-put-decimal) → length (now (c .before .before .before .args .out)) < farthest
+bounded : (c : tie.After-put-wanted) → length (now (c .before .before .before .before .args .out)) < farthest
 bounded c = search needs
 
 same-length : tie.Need-same-length
@@ -33,20 +27,16 @@ same-length c = search needs
 returns : tie.Need-returns
 unfolding wrongCount
 returns c =
-    let z = c .before .before in
-    let y = z .before .before .before .before in
-    let x = y .before .before .before .before .before in
-    let w = x .before .before .before .before in
-    put-then (bounded w) (w .put-decimal .ensures) (λ l. put-then l (x .put-arguments .ensures) (λ l. put-then l (y .put-bytes .ensures) (λ _. z .put-usage .ensures)))
+    let b = c .before .before in
+    let a = b .before .before .before .before in
+    put-then (bounded a) (a .put-wanted .ensures) (λ _. b .put-usage .ensures)
 
 pub put-wrong-count-spec : {M : Type 1} → statement M
 put-wrong-count-spec =
     tie.close
     (tie.spec
-    put-decimal-requires
-    put-arguments-requires
-    slice-aggregate-put-bytes
-    put-bytes-requires
+    slice-aggregate-put-wanted
+    put-wanted-requires
     put-usage-requires
     same-length
     returns)

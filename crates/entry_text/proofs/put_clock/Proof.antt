@@ -1,8 +1,8 @@
 -- Hours, the colon, minutes.
 use Rattle.text.proofs.PutLaws.{put-then}
 use borrow.Author.Needs.{needs}
-use Rattle.listing.proofs.line.put_clock.Statement.{statement}
-use Rattle.listing.proofs.line.put_clock.Tie as tie
+use Rattle.entry_text.proofs.put_clock.Statement.{statement}
+use Rattle.entry_text.proofs.put_clock.Tie as tie
 
 put-two-digits-requires : tie.Need-put-two-digits-requires
 put-two-digits-requires c κs = search needs

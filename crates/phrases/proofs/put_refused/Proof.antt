@@ -5,9 +5,9 @@ use denote.Ref.{now}
 use lib.ListN.{length}
 use Rattle.text.specs.Put.{farthest}
 use Rattle.text.proofs.PutLaws.{put-then}
-use Rattle.yellow_sheet.specs.Answer.{refusedLine}
-use Rattle.yellow_sheet.proofs.answer.put_refused.Statement.{statement}
-use Rattle.yellow_sheet.proofs.answer.put_refused.Tie as tie
+use Rattle.phrases.specs.Phrases.{refusedLine}
+use Rattle.phrases.proofs.put_refused.Statement.{statement}
+use Rattle.phrases.proofs.put_refused.Tie as tie
 
 slice-aggregate-put-bytes : tie.Need-slice-aggregate-put-bytes
 slice-aggregate-put-bytes c = search needs

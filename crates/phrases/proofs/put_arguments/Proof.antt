@@ -1,9 +1,9 @@
 -- One argument, or several.
 use borrow.Author.Needs.{needs}
 use borrow.Author.Tests.{eq-eqb, ne-eqb}
-use Rattle.yellow_sheet.specs.Complaint.{argumentsText}
-use Rattle.yellow_sheet.proofs.complaint.put_arguments.Tie as tie
-use Rattle.yellow_sheet.proofs.complaint.put_arguments.Statement.{statement}
+use Rattle.phrases.specs.Phrases.{argumentsText}
+use Rattle.phrases.proofs.put_arguments.Tie as tie
+use Rattle.phrases.proofs.put_arguments.Statement.{statement}
 
 slice-aggregate-put-bytes : tie.Need-slice-aggregate-put-bytes
 slice-aggregate-put-bytes c = search needs

@@ -1,11 +1,11 @@
 -- Each arm is the definition's name; past the fourth mode there is none.
-use Rattle.listing.proofs.Names.{no-mode}
-use Rattle.listing.specs.Timetable.{modeName}
+use Rattle.entry_text.proofs.Names.{no-mode}
+use Rattle.entry_text.specs.EntryText.{modeName}
 use Rattle.text.proofs.PutLaws.{put-nothing}
 use native.Mathlib.Omega.{arith}
 use borrow.Author.Needs.{needs}
-use Rattle.listing.proofs.line.put_mode_name.Statement.{statement}
-use Rattle.listing.proofs.line.put_mode_name.Tie as tie
+use Rattle.entry_text.proofs.put_mode_name.Statement.{statement}
+use Rattle.entry_text.proofs.put_mode_name.Tie as tie
 
 slice-aggregate-put-bytes : tie.Need-slice-aggregate-put-bytes
 slice-aggregate-put-bytes c = search needs
