@@ -46,6 +46,11 @@ mod cases;
 mod diagnosis;
 mod files;
 mod group;
+mod join_cases;
+mod join_run;
+mod joining;
+mod joining_claim;
+mod joining_year;
 mod lanes;
 mod midnight_cases;
 mod moved_cases;
@@ -121,6 +126,11 @@ fn cases_of(program: &str, seed: Option<u64>, tally: &mut Tally) -> (Vec<Vec<u8>
             let answers = cases.iter().map(|case| yellow_cases::answer(case, tally)).collect();
             (cases, answers)
         }
+        "join-cases" => {
+            let cases = join_cases::cases();
+            let answers = cases.iter().map(|case| join_run::answer(case, tally)).collect();
+            (cases, answers)
+        }
         _ => {
             let cases = seed.map_or_else(call_cases::cases, random_cases::call_cases);
             let answers = cases.iter().map(|case| call_run::answer(case, tally)).collect();
@@ -183,16 +193,16 @@ fn main() -> Result<()> {
     let words: Vec<&str> = words.iter().map(String::as_str).collect();
     let mut out = std::io::stdout();
     match words[..] {
-        [program @ ("site-bounds" | "call-cases" | "yellow-cases"), stream @ ("stdin" | "stdout")] => {
+        [program @ ("site-bounds" | "call-cases" | "yellow-cases" | "join-cases"), stream @ ("stdin" | "stdout")] => {
             let (cases, answers) = cases_of(program, None, &mut Tally::default());
             out.write_all(if stream == "stdin" { framed(&cases) } else { answers.into_bytes() }.as_slice())
         }
-        ["call-cases", "tally"] => {
+        [program @ ("call-cases" | "join-cases"), "tally"] => {
             let tally = &mut Tally::default();
-            cases_of("call-cases", None, tally);
+            cases_of(program, None, tally);
             out.write_all(tally.print().as_bytes())
         }
-        ["random", program @ ("site-bounds" | "call-cases" | "yellow-cases"), seed, folder] => {
+        ["random", program @ ("site-bounds" | "call-cases" | "yellow-cases" | "join-cases"), seed, folder] => {
             let tally = &mut Tally::default();
             let (cases, answers) = cases_of(program, Some(seed.parse().expect("a seed")), tally);
             std::fs::write(format!("{folder}/stdin"), framed(&cases))?;
