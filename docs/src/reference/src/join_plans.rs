@@ -4,7 +4,7 @@
 use crate::diagnosis;
 use crate::files::site_a;
 use crate::joining::{dropped, join, remaining, Entry, List};
-use crate::site::{self, bytes, Refused, Site};
+use crate::site::{self, bytes, Refused, Site, TIMINGS};
 use crate::text;
 use crate::timetable::{start_to_table, DAYS};
 use crate::timetable_files::paper;
@@ -58,6 +58,17 @@ fn dropped_lines(first: &Site, second: &Site, names: Names) -> Vec<u8> {
 
 // The program.
 
+/// A file without its plan: the bytes before the plan's count, and those behind its entries.
+fn around_plan(file: &[u8]) -> [&[u8]; 2] {
+    let (before, rest) = file.split_at(2 + 2 * TIMINGS.len());
+    [before, &rest[2 + 10 * rest[1] as usize..]]
+}
+
+/// The plan apart, the joined file is the first one, byte for byte.
+fn hold_sections(first: &[u8], joined: &[u8]) {
+    assert_eq!(around_plan(first), around_plan(joined));
+}
+
 /// What it writes of two files, whose names in messages are these.
 pub fn print(files: &[Vec<u8>; 2], names: Names) -> Said {
     let [first, second] = [0, 1].map(|i| site::read(&files[i]).map_err(|refused| refused_file(&files[i], names[i], refused)));
@@ -72,7 +83,9 @@ pub fn print(files: &[Vec<u8>; 2], names: Names) -> Said {
     assert_eq!(refusal, 0, "lists that files gave");
     let explanation = dropped_lines(&first, &second, names);
     let entries = list.entries().expect("a list that a file could give");
-    Said { output: bytes(&Site { entries, ..first }), explanation }
+    let output = bytes(&Site { entries, ..first });
+    hold_sections(&files[0], &output);
+    Said { output, explanation }
 }
 
 // Its stored files.

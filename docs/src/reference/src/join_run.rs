@@ -3,6 +3,7 @@
 use crate::joining::{begins, covers, dropped, join, Entry, List, MOST, ROOM};
 use crate::joining_claim;
 use crate::joining_year;
+use crate::site::holiday_ok;
 use crate::tally::Tally;
 
 /// How many numbers a case has: two lists with their counts, the year, the count of holidays and room for them.
@@ -19,6 +20,7 @@ pub struct Case {
 impl Case {
     pub fn bytes(&self) -> Vec<u8> {
         let Case { first, second, year, holidays } = self;
+        assert!(holidays.len() <= MOST && holidays.iter().all(|row| (0..5).all(|i| holiday_ok(row, i))));
         let lists = [&[first.count], &first.numbers[..], &[second.count], &second.numbers].concat();
         let mut numbers = [lists, vec![*year, holidays.len() as u16], holidays.concat()].concat();
         numbers.resize(NUMBERS, 0);
@@ -50,6 +52,7 @@ fn count_kept(entry: &Entry, second: &[Entry], tally: &mut Tally) {
 
 fn count_accepted(first: &[Entry], second: &[Entry], joined: &[Entry], tally: &mut Tally) {
     let dropped = dropped(first, second);
+    joining_claim::hold_dropped(first, second, &dropped);
     tally.count("joins accepted", 1);
     let drops = match dropped.len() {
         0 => "joins that drop nothing",
@@ -90,9 +93,8 @@ fn line(name: &str, list: &List) -> String {
 }
 
 /// The line of the year, which is worked out from both lists laid end to end.
-fn year_line(case: &Case, entries: [&[Entry]; 3], tally: &mut Tally) -> String {
-    let [first, second, joined] = entries;
-    let year = joining_year::year(first, second, joined, (case.year, &case.holidays), tally);
+fn year_line(case: &Case, lists: [&[Entry]; 2], joined: &[Entry], tally: &mut Tally) -> String {
+    let year = joining_year::year(lists, joined, (case.year, &case.holidays), tally);
     format!("year {} checks {} digest {}\n", case.year, year.checks, year.digest)
 }
 
@@ -107,7 +109,7 @@ pub fn answer(case: &[u8], tally: &mut Tally) -> String {
     match (refusal, first.entries(), second.entries(), list.entries()) {
         (0, Some(first), Some(second), Some(joined)) => {
             count_accepted(&first, &second, &joined, tally);
-            lines + &year_line(&case, [&first, &second, &joined], tally)
+            lines + &year_line(&case, [&first, &second], &joined, tally)
         }
         (_, first, second, _) => {
             count_refused(first, second, tally);

@@ -2,6 +2,7 @@
 //! of sets, and the joined list walked beside both others.
 
 use crate::joining::{Entry, List, MOST};
+use std::collections::BTreeMap;
 
 fn row_in_range(row: &[u16]) -> bool {
     let [days, start, mode, rate, table] = *row else {
@@ -27,6 +28,15 @@ fn rows(list: &List) -> Option<Vec<Entry>> {
 /// "An entry of the first is dropped if one entry of the second has the same start and all its days."
 fn is_dropped(entry: &Entry, second: &[Entry]) -> bool {
     second.iter().any(|by| by[1] == entry[1] && by[0] | entry[0] == by[0])
+}
+
+/// Each place of the first that is dropped, and none besides, with that of the second's first entry which does it alone.
+pub fn hold_dropped(first: &[Entry], second: &[Entry], dropped: &BTreeMap<usize, usize>) {
+    for (place, entry) in (1..).zip(first) {
+        // up to the first that does it, how many of the second it takes
+        let by = (1..=second.len()).find(|many| is_dropped(entry, &second[..*many]));
+        assert_eq!(dropped.get(&place).copied(), by, "what covers entry {place} of the first list");
+    }
 }
 
 /// The joined rows: those of the first that are not dropped, each met in its turn, and behind them all of the second.

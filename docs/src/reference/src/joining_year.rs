@@ -82,34 +82,56 @@ fn hold_place(site: &Site, date: Date, minute: u16, found: Option<(usize, usize)
     }
 }
 
+/// What the checks found.
+#[derive(Default)]
+struct Found {
+    in_force: u64,
+    none: u64,
+    earlier: u64,
+    on_holiday: u64,
+    differing: u64,
+}
+
+impl Found {
+    /// A check on a day of that type: the place in force with its days ago, and what is in force under each list alone.
+    fn note(&mut self, day: usize, place: Option<(usize, usize)>, alone: [Option<Entry>; 2]) {
+        self.in_force += place.is_some() as u64;
+        self.none += place.is_none() as u64;
+        self.earlier += place.is_some_and(|(_, ago)| ago > 0) as u64;
+        self.on_holiday += (day == HOLIDAY) as u64;
+        self.differing += (alone[0] != alone[1]) as u64;
+    }
+
+    fn count(&self, tally: &mut Tally) {
+        tally.count("checks of an entry in force", self.in_force);
+        tally.count("checks with no entry in force", self.none);
+        tally.count("checks whose entry began on an earlier day", self.earlier);
+        tally.count("checks on a holiday", self.on_holiday);
+        tally.count("checks at which the two lists alone differ from each other", self.differing);
+    }
+}
+
 /// The year of both lists laid end to end; the joined one is held to it.
-pub fn year(first: &[Entry], second: &[Entry], joined: &[Entry], (year, holidays): (u16, &[[u16; 5]]), tally: &mut Tally) -> Year {
-    let end_to_end = [first, second].concat();
+pub fn year(lists: [&[Entry]; 2], joined: &[Entry], (year, holidays): (u16, &[[u16; 5]]), tally: &mut Tally) -> Year {
+    let end_to_end = lists.concat();
     let minutes = minutes(&end_to_end);
-    let [all, joined, first, second] = [&end_to_end[..], joined, first, second].map(|entries| Plan::new(entries, &minutes));
+    let plan = |entries| Plan::new(entries, &minutes);
+    let (both, joined, alone) = (plan(&end_to_end), plan(joined), lists.map(plan));
     let site = Site { entries: end_to_end.clone(), holidays: holidays.to_vec(), ..site_a() };
     let mut types = BTreeMap::new();
     let mut type_of = |date| *types.entry(date).or_insert_with(|| day_type(date, holidays));
-    let (mut out, mut in_force, mut earlier, mut on_holiday, mut differing) = (Year::default(), 0, 0, 0, 0);
+    let (mut out, mut found) = (Year::default(), Found::default());
     for (date, i) in dates(year).zip(0..) {
         let day_types: Vec<usize> = once(date).chain(days_back(date)).map(&mut type_of).collect();
-        for k in 0..minutes.len() {
-            let (place, entry) = (all.place(k, &day_types), all.entry(k, &day_types));
-            assert_eq!(joined.entry(k, &day_types), entry, "the joined list's entry in force, {date:?}, minute {}", minutes[k]);
-            if i % minutes.len() == k {
-                hold_place(&site, date, minutes[k], place);
-            }
+        for (k, minute) in minutes.iter().enumerate() {
+            let entry = both.entry(k, &day_types);
+            assert_eq!(joined.entry(k, &day_types), entry, "the joined list's entry in force, {date:?}, minute {minute}");
             out.add(entry);
-            in_force += place.is_some() as u64;
-            earlier += place.is_some_and(|(_, ago)| ago > 0) as u64;
-            on_holiday += (day_types[0] == HOLIDAY) as u64;
-            differing += (first.entry(k, &day_types) != second.entry(k, &day_types)) as u64;
+            found.note(day_types[0], both.place(k, &day_types), [&alone[0], &alone[1]].map(|plan| plan.entry(k, &day_types)));
         }
+        let k = i % minutes.len();
+        hold_place(&site, date, minutes[k], both.place(k, &day_types));
     }
-    tally.count("checks of an entry in force", in_force);
-    tally.count("checks with no entry in force", out.checks - in_force);
-    tally.count("checks whose entry began on an earlier day", earlier);
-    tally.count("checks on a holiday", on_holiday);
-    tally.count("checks at which the two lists alone differ from each other", differing);
+    found.count(tally);
     out
 }

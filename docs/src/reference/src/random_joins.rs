@@ -91,15 +91,16 @@ fn fit(r: &mut Random, pool: &Pool, first: &mut Vec<Entry>, second: &[Entry], ma
     }
 }
 
-/// The entries of two lists, about half of the first's made after some of the second's. In every fourth pair just 16 or 17 remain.
+/// The entries of two lists, about half of the first's made after some of the second's. In every third pair just 16 or 17 remain,
+/// if that can be.
 fn lists(r: &mut Random) -> [Vec<Entry>; 2] {
     let pool = pool(r);
     let second: Vec<Entry> = (0..size(r)).map(|_| entry(r, &pool)).collect();
     let copied = if second.is_empty() { 0 } else { r.pick(&[0, 50, 50, 60, 60]) };
     let one = |r: &mut Random| if r.percent(copied) { made_after(r, &pool, &second) } else { entry(r, &pool) };
     let mut first: Vec<Entry> = (0..size(r)).map(|_| one(r)).collect();
-    if r.percent(25) {
-        let many = r.pick(&[16, 16, 17]);
+    if r.percent(33) {
+        let many = r.pick(&[16, 17]);
         fit(r, &pool, &mut first, &second, many);
     }
     [first, second]
