@@ -1,12 +1,14 @@
 //! Document 01 in plain Rust, with the preemption, the nearest cycle, the plans past midnight, the bus bypass, the one cycle per tick, the
-//! holidays that move, the many ticks in one call, the speeds from loop pairs and the yellow times for slopes of document 02.
+//! holidays that move, the many ticks in one call, the speeds from loop pairs, the yellow times for slopes and the joining of two plan
+//! lists of document 02.
 //! `reference NAME` writes test inputs and what they should give:
 //!
 //! - `site-bounds stdin`, `site-bounds stdout`: the files of `crates/site_bounds`.
 //! - `call-cases stdin`, `call-cases stdout`: the files of `crates/call_cases`.
-//! - `call-cases tally`: how many of each kind are stored.
 //! - `yellow-cases stdin`, `yellow-cases stdout`: the files of `crates/yellow_cases`.
-//! - `random PROGRAM SEED FOLDER`: fresh cases of a seed for one of these three programs, as FOLDER/stdin, and what they give,
+//! - `join-cases stdin`, `join-cases stdout`: the files of `crates/join_cases`.
+//! - `call-cases tally`, `join-cases tally`: how many of each kind are stored.
+//! - `random PROGRAM SEED FOLDER`: fresh cases of a seed for one of these four programs, as FOLDER/stdin, and what they give,
 //!   as FOLDER/stdout; prints how many of each kind they are.
 //! - `random timetable SEED FOLDER`: site files for the timetable program, FOLDER/0/site.bin and so on, and what it prints and explains of
 //!   all of them, as FOLDER/stdout and FOLDER/stderr.
@@ -14,6 +16,8 @@
 //! - `random simulate SEED FOLDER`: the same for the simulate program, with tick records, FOLDER/0/ticks and so on.
 //! - `random yellow-sheet SEED FOLDER`: words for the yellow_sheet program, two for each call, as FOLDER/words, a byte of 0 behind each;
 //!   and what it writes of all calls in a row, as FOLDER/stdout and FOLDER/stderr.
+//! - `random join-plans SEED FOLDER`: pairs of site files for the join_plans program, FOLDER/0/site.bin, FOLDER/0/works.bin and so on; and
+//!   what it writes of all of them, as FOLDER/stdout and FOLDER/stderr.
 //! - `simulated-day stdin`: the site file of `crates/simulated_day`; `simulated-day`: what that program prints of the site file on
 //!   standard input, and what it explains; `simulated-day samples`: what it prints of the samples alone.
 //! - `day-records`: the ticks of that day at that site, as tick records.
@@ -27,6 +31,9 @@
 //! - `rate-sheet`: what `crates/rate_sheet` prints.
 //! - `yellow-sheet`: what `crates/yellow_sheet` prints.
 //! - `yellow-sheet WORD..`: what that program writes of these arguments, on both streams. They may be any bytes.
+//! - `join-plans FILE FILE [NAME NAME]`: what the join_plans program writes of two site files, on both streams. In messages they have these
+//!   names, or else those of the files; all of them may be any bytes.
+//! - `join-plans-files FOLDER`: the files of `crates/join_plans`.
 //! - `release-check`: what `crates/release_check` prints.
 //! - `calendar-check`: what `crates/calendar_check` prints.
 //! - `paper-site`: the site file of `crates/timetable`.
@@ -46,6 +53,12 @@ mod cases;
 mod diagnosis;
 mod files;
 mod group;
+mod join_cases;
+mod join_plans;
+mod join_run;
+mod joining;
+mod joining_claim;
+mod joining_year;
 mod lanes;
 mod midnight_cases;
 mod moved_cases;
@@ -58,6 +71,7 @@ mod preemption_cases;
 mod random;
 mod random_calls;
 mod random_cases;
+mod random_joins;
 mod random_records;
 mod random_replay;
 mod random_simulate;
@@ -98,8 +112,10 @@ mod wanted;
 mod yellow_cases;
 mod yellow_sheet;
 
+use std::ffi::OsString;
 use std::io::{Read, Result, Write};
 use std::os::unix::ffi::OsStrExt;
+use std::path::Path;
 use tally::Tally;
 
 /// Each case behind its length in two bytes.
@@ -121,6 +137,11 @@ fn cases_of(program: &str, seed: Option<u64>, tally: &mut Tally) -> (Vec<Vec<u8>
             let answers = cases.iter().map(|case| yellow_cases::answer(case, tally)).collect();
             (cases, answers)
         }
+        "join-cases" => {
+            let cases = seed.map_or_else(join_cases::cases, random_joins::cases);
+            let answers = cases.iter().map(|case| join_run::answer(case, tally)).collect();
+            (cases, answers)
+        }
         _ => {
             let cases = seed.map_or_else(call_cases::cases, random_cases::call_cases);
             let answers = cases.iter().map(|case| call_run::answer(case, tally)).collect();
@@ -130,7 +151,7 @@ fn cases_of(program: &str, seed: Option<u64>, tally: &mut Tally) -> (Vec<Vec<u8>
 }
 
 /// A file's bytes; an absent one counts as empty.
-fn contents(file: &str) -> Vec<u8> {
+fn contents(file: impl AsRef<Path>) -> Vec<u8> {
     std::fs::read(file).unwrap_or_default()
 }
 
@@ -162,37 +183,58 @@ fn simulate(file: &str) -> Result<()> {
     std::io::stderr().write_all(said.explanation.as_bytes())
 }
 
-/// The words behind `yellow-sheet`, if that is the first one, as bytes: they need not be UTF-8.
-fn yellow_words() -> Option<Vec<Vec<u8>>> {
+/// The words behind this one, if it is the first. They need not be UTF-8.
+fn words_behind(command: &str) -> Option<Vec<OsString>> {
     let mut words = std::env::args_os().skip(1);
     let first = words.next()?;
-    (first == "yellow-sheet").then(|| words.map(|word| word.as_bytes().to_vec()).collect())
+    (first == command).then(|| words.collect())
 }
 
-fn yellow_sheet(words: &[Vec<u8>]) -> Result<()> {
-    let said = yellow_sheet::print(words);
+fn yellow_sheet(words: &[OsString]) -> Result<()> {
+    let words: Vec<Vec<u8>> = words.iter().map(|word| word.as_bytes().to_vec()).collect();
+    let said = yellow_sheet::print(&words);
     std::io::stdout().write_all(said.output.as_bytes())?;
     std::io::stderr().write_all(&said.explanation)
 }
 
+/// Two files, and the names that they have in messages.
+fn join_plans(words: &[OsString]) -> Result<()> {
+    let ([site, works] | [site, works, _, _]) = words else {
+        no_such_test(&words)
+    };
+    let files = [site, works].map(contents);
+    let names = &words[words.len() - 2..];
+    let said = join_plans::print(&files, [names[0].as_bytes(), names[1].as_bytes()]);
+    std::io::stdout().write_all(&said.output)?;
+    std::io::stderr().write_all(&said.explanation)
+}
+
+fn no_such_test(words: &dyn std::fmt::Debug) -> ! {
+    eprintln!("reference: no such test: {words:?}");
+    std::process::exit(2)
+}
+
 fn main() -> Result<()> {
-    if let Some(words) = yellow_words() {
+    if let Some(words) = words_behind("yellow-sheet") {
         return yellow_sheet(&words);
+    }
+    if let Some(words) = words_behind("join-plans") {
+        return join_plans(&words);
     }
     let words: Vec<String> = std::env::args().skip(1).collect();
     let words: Vec<&str> = words.iter().map(String::as_str).collect();
     let mut out = std::io::stdout();
     match words[..] {
-        [program @ ("site-bounds" | "call-cases" | "yellow-cases"), stream @ ("stdin" | "stdout")] => {
+        [program @ ("site-bounds" | "call-cases" | "yellow-cases" | "join-cases"), stream @ ("stdin" | "stdout")] => {
             let (cases, answers) = cases_of(program, None, &mut Tally::default());
             out.write_all(if stream == "stdin" { framed(&cases) } else { answers.into_bytes() }.as_slice())
         }
-        ["call-cases", "tally"] => {
+        [program @ ("call-cases" | "join-cases"), "tally"] => {
             let tally = &mut Tally::default();
-            cases_of("call-cases", None, tally);
+            cases_of(program, None, tally);
             out.write_all(tally.print().as_bytes())
         }
-        ["random", program @ ("site-bounds" | "call-cases" | "yellow-cases"), seed, folder] => {
+        ["random", program @ ("site-bounds" | "call-cases" | "yellow-cases" | "join-cases"), seed, folder] => {
             let tally = &mut Tally::default();
             let (cases, answers) = cases_of(program, Some(seed.parse().expect("a seed")), tally);
             std::fs::write(format!("{folder}/stdin"), framed(&cases))?;
@@ -253,6 +295,21 @@ fn main() -> Result<()> {
             std::fs::write(format!("{folder}/stderr"), stderr)?;
             out.write_all(tally.print().as_bytes())
         }
+        ["random", "join-plans", seed, folder] => {
+            let tally = &mut Tally::default();
+            let (mut stdout, mut stderr) = (Vec::new(), Vec::new());
+            for (i, pair) in random_joins::pairs(seed.parse().expect("a seed")).iter().enumerate() {
+                std::fs::create_dir_all(format!("{folder}/{i}"))?;
+                std::fs::write(format!("{folder}/{i}/site.bin"), &pair[0])?;
+                std::fs::write(format!("{folder}/{i}/works.bin"), &pair[1])?;
+                let said = random_joins::answer(pair, tally);
+                stdout.extend(said.output);
+                stderr.extend(said.explanation);
+            }
+            std::fs::write(format!("{folder}/stdout"), stdout)?;
+            std::fs::write(format!("{folder}/stderr"), stderr)?;
+            out.write_all(tally.print().as_bytes())
+        }
         ["simulated-day", "stdin"] => out.write_all(&site::bytes(&simulated_day::site())),
         ["simulated-day"] => {
             let file = standard_input()?;
@@ -275,10 +332,8 @@ fn main() -> Result<()> {
         ["calendar-check"] => out.write_all(calendar_check::print().as_bytes()),
         ["paper-site"] => out.write_all(&site::bytes(&timetable_files::paper())),
         ["timetable-cases", "stdout"] => out.write_all(timetable_files::answers().as_bytes()),
+        ["join-plans-files", folder] => join_plans::write(folder),
         ["timetable-files", folder] => timetable_files::write(folder),
-        _ => {
-            eprintln!("reference: no such test: {words:?}");
-            std::process::exit(2)
-        }
+        _ => no_such_test(&words),
     }
 }

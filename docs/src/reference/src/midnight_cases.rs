@@ -16,11 +16,11 @@ use std::ops::RangeInclusive;
 // The day types of an entry.
 pub const SUN: u16 = 1;
 pub const MON: u16 = 2;
-const TUE: u16 = 4;
-const WED: u16 = 8;
-const THU: u16 = 16;
-const FRI: u16 = 32;
-const SAT: u16 = 64;
+pub const TUE: u16 = 4;
+pub const WED: u16 = 8;
+pub const THU: u16 = 16;
+pub const FRI: u16 = 32;
+pub const SAT: u16 = 64;
 pub const HOL: u16 = 128;
 /// All but holidays.
 pub const DAILY: u16 = 127;

@@ -52,7 +52,7 @@ pub fn steady_commands(r: &mut Random, s: &Setting) -> [Command; 2] {
     [manual, NONE]
 }
 
-fn any_site(r: &mut Random) -> Site {
+pub fn any_site(r: &mut Random) -> Site {
     let mut site = any_setting(r, 0).site;
     site.timings = cases::timings(r);
     site
@@ -61,7 +61,7 @@ fn any_site(r: &mut Random) -> Site {
 // Files.
 
 /// Numbers at an end of some range, and beside one.
-const EDGES: [u16; 40] = [
+pub const EDGES: [u16; 40] = [
     0, 1, 2, 3, 4, 5, 6, 7, 9, 10, 12, 13, 14, 15, 16, 17, 24, 25, 28, 29, 30, 31, 32, 60, 61, 100, 101, 149, 150, 250,
     251, 255, 256, 600, 601, 1439, 1440, 1800, 1801, UNUSED,
 ];

@@ -7,6 +7,12 @@ use std::fmt::Write;
 pub const DAYS: [&str; 8] = ["Sun", "Mon", "Tue", "Wed", "Thu", "Fri", "Sat", "Hol"];
 const MODES: [&str; 4] = ["dark", "green", "fixed", "resp"];
 
+/// An entry's start, mode, rate and table, as the timetable says them.
+pub fn start_to_table(entry: &[u16; 5]) -> String {
+    let [_, start, mode, rate, table] = *entry;
+    format!("{:02}:{:02} {} {rate} {table}", start / 60, start % 60, MODES[mode as usize])
+}
+
 pub fn print(file: &[u8]) -> String {
     let site = match site::read(file) {
         Ok(site) => site,
@@ -19,8 +25,7 @@ pub fn print(file: &[u8]) -> String {
         // a stable sort: equal starts stay as filed
         of_day.sort_by_key(|(_, e)| e[1]);
         for (i, e) in of_day {
-            let (hour, minute) = (e[1] / 60, e[1] % 60);
-            writeln!(out, "{name} {hour:02}:{minute:02} {} {} {} {}", MODES[e[2] as usize], e[3], e[4], i + 1).unwrap();
+            writeln!(out, "{name} {} {}", start_to_table(e), i + 1).unwrap();
         }
     }
     out

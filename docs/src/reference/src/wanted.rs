@@ -98,25 +98,25 @@ pub fn half_goes_up(site: &Site, wish: Wish) -> bool {
     matches!(wish, Wish::Metering(rate) if ends_in_half(site, rate))
 }
 
-/// Among the entries of a day type whose start counts, the latest start, and among equal starts the one filed last.
-fn latest_start(site: &Site, day: usize, counts: impl Fn(u16) -> bool) -> Option<usize> {
-    let those = (1..=site.entries.len()).filter(|place| {
-        let [days, start, ..] = site.entries[place - 1];
+/// Among the entries of a day type whose start counts, the latest start, and among equal starts the one filed last; its place from 1.
+pub fn latest_start(entries: &[[u16; 5]], day: usize, counts: impl Fn(u16) -> bool) -> Option<usize> {
+    let those = (1..=entries.len()).filter(|place| {
+        let [days, start, ..] = entries[place - 1];
         days & (1 << day) != 0 && counts(start)
     });
     // of equal starts `max_by_key` takes the last
-    those.max_by_key(|place| site.entries[place - 1][1])
+    those.max_by_key(|place| entries[place - 1][1])
 }
 
 /// The place of the entry in force, and how many days ago it began. With no entry begun today it is the latest start of yesterday, of the
 /// whole day; with none there either, that of the day before it, and so on, each day with its own day type.
 fn entry_in_force(site: &Site, clock: Clock, day: usize) -> Option<(usize, usize)> {
     let minute = (clock.tenth / 600) as u16;
-    if let Some(place) = latest_start(site, day, |start| start <= minute) {
+    if let Some(place) = latest_start(&site.entries, day, |start| start <= minute) {
         return Some((place, 0));
     }
     days_back(clock.date).zip(1..).find_map(|(date, days_ago)| {
-        let place = latest_start(site, day_type(date, &site.holidays), |_| true)?;
+        let place = latest_start(&site.entries, day_type(date, &site.holidays), |_| true)?;
         Some((place, days_ago))
     })
 }
