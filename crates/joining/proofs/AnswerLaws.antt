@@ -81,6 +81,14 @@ module _ (first second : PlanList) where
     empty = λ n. accepted-or-empty first second (λ a. absurd (n (a .none))) (λ e m. subst Empty (sym e) (refl, λ i. zeros-behind [] i (omega arith)));
   }
 
+  -- Where a file could give both lists, 17 is the one refusal.
+  pub filed-refusal : BothFiled first second → (joinedOf first second .refusal ≡ 0) ⊎ (joinedOf first second .refusal ≡ 17)
+  filed-refusal f =
+      let w = remain first second in
+      by-test (leb (_ + second .count) 16)
+      (λ t. inl (answers .joined f _ _ w (leb-true _ 16 t) .0))
+      (λ t. inr (answers .too-many f _ _ w (leb-false _ 16 t)))
+
   -- Two answers that fit the words are the same: each is refused for the same reason or has the same entries, and 0 behind them.
   module _ (r q : Joined) (a : Answers first second r) (b : Answers first second q) (m : length (r .list .rows) ≡ 80) (n : length (q .list .rows) ≡ 80) where
     same-answer : r .refusal ≡ q .refusal → r .list ≡ q .list → r ≡ q

@@ -1,9 +1,10 @@
--- A place other than 0 says that one of the entries covers it.
-use Prim.Native.Nat.{ℕ, _+_}
+-- A place other than 0 says that one of the entries covers it; it is one of theirs.
+use Prim.Native.Nat.{ℕ, _+_, _≤_}
 use mathlib.Core.Path.{_≡_, refl}
 use mathlib.Core.Bool.{true, false}
 use mathlib.Core.List.{List, [], _∷_}
 use native.Mathlib.Omega.{arith}
+use lib.ListN.{length}
 use Rattle.loops.proofs.Cases.{by-test}
 use Rattle.plan.specs.declared.Entry.{Entry}
 use Rattle.joining.specs.Joining.{covers, isCovered, coveringFrom}
@@ -16,3 +17,8 @@ not-covered (other ∷ es) e i h =
 pub covered : (es : List Entry) (e : Entry) (i : ℕ) → (coveringFrom es e i ≡ 0 → ⊥) → isCovered es e ≡ true
 covered [] e i n = absurd (n refl)
 covered (other ∷ es) e i n = by-test (covers other e) (λ t. rw t refl) (λ f. rw f (covered es e (i + 1) (rw f at n)))
+
+pub covering-most : (es : List Entry) (e : Entry) (i : ℕ) → coveringFrom es e i ≤ i + length es
+covering-most [] e i = omega arith
+covering-most (other ∷ es) e i =
+    by-test (covers other e) (λ t. rw t (omega arith)) (λ f. rw f (omega (arith, covering-most es e (i + 1))))

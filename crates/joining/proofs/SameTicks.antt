@@ -53,7 +53,7 @@ module _ (x : Site) (u v : List ℕ) (m n : ℕ) (s : State) (i : Input)
 
 -- A plan that could be filed spoils no site, and lets none pass that another part spoils.
 module _ (x : Site) (list : PlanList) (filed : spoiltList list ≡ false) (sound : spoiltSite x ≡ false) where
-  still-sound : spoiltSite (withList x list) ≡ false
+  pub still-sound : spoiltSite (withList x list) ≡ false
   unfolding spoiltSite
   still-sound =
       let p = neither _ _ sound in

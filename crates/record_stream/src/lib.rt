@@ -1,37 +1,10 @@
-// What the programs that read tick records do alike: the site, whole records from a stream in a buffer of fixed size, and the line at
-// the end.
+// What the programs that read tick records do alike: whole records from a stream in a buffer of fixed size, and the line at the end.
 ghost use mathlib.Core.Path.{_≡_};
 ghost use mathlib.Core.Bool.{cond};
 ghost use Prim.Native.Nat.{_-_, _%_, _≤_};
 ghost use lib.ListN.{length, take, drop};
 use libc::STDERR_FILENO;
 use libc::STDIN_FILENO;
-use site::Site;
-
-// A site, where its file could be read and was accepted.
-pub struct GivenSite {
-    pub given: bool,
-    pub site: Site,
-}
-
-// Reads the site file of that name. A refused one is reported on standard error as a number and a place.
-pub fn site_of(name: &[u8], named: bool) -> GivenSite {
-    let mut file = [0u8; site_reader::FRONT];
-    let input = file_input::read_file(name, named, &mut file);
-    let n = input.count;
-    let read = site_reader::read(&file[..n]);
-    let site = read.site;
-    if input.failed {
-        return GivenSite { given: false, site };
-    }
-    if read.refusal != 0 {
-        let mut text = io::buffer();
-        let end = phrases::put_refusal(&mut text, 0, read.refusal, read.place);
-        site_program::write_error(STDERR_FILENO, &text, end);
-        return GivenSite { given: false, site };
-    }
-    GivenSite { given: true, site }
-}
 
 // How many bytes stand in the front of a buffer, whether they are the last, and whether they could not be read.
 pub struct Front {

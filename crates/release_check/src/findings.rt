@@ -1,9 +1,6 @@
 // What searches found, summed up in a line.
 use libc::STDOUT_FILENO;
 
-// The greatest prime below 2^32.
-const DIGEST_MODULUS: u64 = 4294967291;
-
 pub struct Findings {
     // how often none was found, and each of four lanes
     pub counts: [u64; 5],
@@ -18,10 +15,6 @@ pub fn new() -> Findings {
     }
 }
 
-fn digested(digest: u32, found: u16) -> u32 {
-    (((digest as u64) * 31 + (found as u64)) % DIGEST_MODULUS) as u32
-}
-
 // With one search more. A number above 4 changes the digest alone.
 pub fn added(findings: Findings, found: u16) -> Findings {
     let mut f = findings;
@@ -29,7 +22,7 @@ pub fn added(findings: Findings, found: u16) -> Findings {
     if k < 5 {
         f.counts[k] = std::num::wrapping_add_u64(f.counts[k], 1);
     }
-    f.digest = digested(f.digest, found);
+    f.digest = test_output::digested(f.digest, found);
     f
 }
 

@@ -124,7 +124,7 @@ fn run_all(site: Site, singly: bool) -> Run {
 // Simulates the records of standard input at the site of that name, singly or not. A site file that is refused is reported on standard
 // error; so is one that cannot be read, or that the user named and that is absent.
 pub fn simulate(name: &[u8], named: bool, singly: bool) {
-    let read = record_stream::site_of(name, named);
+    let read = site_input::site_of(name, named, false);
     if !read.given {
         return;
     }

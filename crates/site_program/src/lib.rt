@@ -97,6 +97,16 @@ pub fn arguments_given() -> usize {
     count - 1
 }
 
+// Whether the first argument asks for help.
+pub fn asks_help() -> bool {
+    let mut word = io::buffer();
+    let n = os::arg(1, &mut word);
+    match asked_by(1, &word[..n]) {
+        Asked::Help => true,
+        _ => false,
+    }
+}
+
 // The default name, in the front of a buffer.
 fn default_name(name: &mut [u8]) -> AskedSite
     ensures { λ r. ⌜ r .count ≤ length (now (name .exit)) ⌝ }

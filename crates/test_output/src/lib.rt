@@ -35,6 +35,14 @@ pub fn untouched(buffer: &[u8], from: usize) -> bool {
     true
 }
 
+// The greatest prime below 2^32.
+const DIGEST_MODULUS: u64 = 4294967291;
+
+// A digest of numbers in their order, with one more.
+pub fn digested(digest: u32, number: u16) -> u32 {
+    (((digest as u64) * 31 + (number as u64)) % DIGEST_MODULUS) as u32
+}
+
 // Prints a text's first n bytes, where it has as many.
 pub fn print(text: &[u8], n: usize) {
     if n <= text.len() {

@@ -6,7 +6,6 @@ mod sheet;
 
 ghost use Rattle.io.specs.Counts.{Counts};
 use libc::STDERR_FILENO;
-use site_program::Asked;
 
 // A byte more than a word may have, so that one that is too long is seen to be.
 const ARGUMENT: usize = word_value::LONGEST_WORD + 1;
@@ -56,21 +55,12 @@ fn print_wrong_count(count: usize) {
     site_program::write_error(STDERR_FILENO, &text, n);
 }
 
-fn is_help() -> bool {
-    let mut word = [0u8; ARGUMENT];
-    let n = argument(1, &mut word);
-    match site_program::asked_by(1, &word[..n]) {
-        Asked::Help => true,
-        _ => false,
-    }
-}
-
 fn main() {
     let count = site_program::arguments_given();
     match count {
         0 => sheet::print_sheet(),
         1 => {
-            if is_help() {
+            if site_program::asks_help() {
                 print_help();
             } else {
                 print_wrong_count(count);

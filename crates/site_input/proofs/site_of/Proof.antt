@@ -1,9 +1,10 @@
--- What was read lies within the buffer.
+-- What was read lies within the buffer; an accepted file's record is not spoilt.
 use lib.Seq.{length-take-le}
+use mathlib.Core.Bool.{true≢false}
 use mathlib.Core.Path.{sym}
 use borrow.Author.Needs.{needs}
-use Rattle.record_stream.proofs.site_of.Statement.{statement}
-use Rattle.record_stream.proofs.site_of.Tie as tie
+use Rattle.site_input.proofs.site_of.Statement.{statement}
+use Rattle.site_input.proofs.site_of.Tie as tie
 
 slice-aggregate-read-file : tie.Need-slice-aggregate-read-file
 slice-aggregate-read-file c = search needs
@@ -21,28 +22,22 @@ read-requires : tie.Need-read-requires
 read-requires c κs = search needs
 
 returns : tie.Need-returns
-returns c = search needs
+returns c = λ e. absurd (true≢false (sym e))
 
-buffer-requires : tie.Need-buffer-requires
-buffer-requires c κs = search needs
+array-share-prefix-file-2 : tie.Need-array-share-prefix-file-2
+array-share-prefix-file-2 c = search needs
 
-slice-aggregate-put-refusal : tie.Need-slice-aggregate-put-refusal
-slice-aggregate-put-refusal c = search needs
+slice-aggregate-report : tie.Need-slice-aggregate-report
+slice-aggregate-report c = sym (length-take-le _ _ (search needs))
 
-put-refusal-requires : tie.Need-put-refusal-requires
-put-refusal-requires c κs = search needs
-
-slice-aggregate-write-error : tie.Need-slice-aggregate-write-error
-slice-aggregate-write-error c = search needs
-
-write-error-requires : tie.Need-write-error-requires
-write-error-requires c κs = search needs
+report-requires : tie.Need-report-requires
+report-requires c κs = search needs
 
 returns-2 : tie.Need-returns-2
-returns-2 c = search needs
+returns-2 c = λ e. absurd (true≢false (sym e))
 
 returns-3 : tie.Need-returns-3
-returns-3 c = search needs
+returns-3 c = λ e. c .before .before .before .before .read .ensures .1 (search needs) .0
 
 pub site-of-spec : {M : Type 1} → statement M
 site-of-spec =
@@ -54,10 +49,8 @@ site-of-spec =
     slice-aggregate-read
     read-requires
     returns
-    buffer-requires
-    slice-aggregate-put-refusal
-    put-refusal-requires
-    slice-aggregate-write-error
-    write-error-requires
+    array-share-prefix-file-2
+    slice-aggregate-report
+    report-requires
     returns-2
     returns-3)

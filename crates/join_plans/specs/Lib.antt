@@ -1,0 +1,2 @@
+pub mod JoinedSite
+pub mod Report
