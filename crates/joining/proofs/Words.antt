@@ -102,3 +102,7 @@ module _ (first second : PlanList) where
       nothing-else = counted ∙ ap (λ (x : ℕ). x + second .count) (sym told);
       zeros-beyond = zeros-behind (joinedEntries es others);
     }
+
+  -- So many are kept.
+  pub kept-remain : (r : ℕ) → r ≡ length (kept es others) → (from : ℕ → ℕ) × Remain first second r from
+  kept-remain r e = ((λ k. getD places k 0), rw (e ∙ sym as-many-kept) remain)

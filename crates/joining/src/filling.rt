@@ -4,7 +4,7 @@ ghost use Prim.Native.Nat.{_+_, _≤_, _<_};
 ghost use mathlib.Core.List.{[]};
 ghost use Rattle.ranges.specs.declared.Section.the-variants.{Entries};
 ghost use Rattle.ranges.specs.Sections.{greatestOf};
-ghost use Rattle.joining.specs.Joining.{entriesFrom, kept, listOf};
+ghost use Rattle.joining.specs.Joining.{entriesFrom, entriesOf, kept, listOf};
 ghost use Rattle.joining.specs.Filling.{withEntry, withAll};
 use crate::PlanList;
 use plan::Entry;
@@ -52,15 +52,16 @@ pub fn keep(rows: &[u16], count: u16, second: &[u16], others: u16) -> PlanList
     list
 }
 
-// A list with these rows' entries at its end.
-pub fn append(list: PlanList, rows: &[u16], count: u16) -> PlanList
-    requires { ⌜ list .count + count ≤ greatestOf Entries ⌝ }
-    ensures { λ r. ⌜ r ≡ withAll list (entriesFrom (now (rows .entry)) 0 count) ⌝ }
+// A list with another's entries at its end.
+pub fn append(list: PlanList, more: PlanList) -> PlanList
+    requires { ⌜ list .count + more .count ≤ greatestOf Entries ⌝ }
+    ensures { λ r. ⌜ r ≡ withAll list (entriesOf more) ⌝ }
 {
+    let rows = more.rows;
     let mut longer = list;
-    let mut left = count;
+    let mut left = more.count;
     while 0 < left {
-        let e = plan::entry_at(rows, count - left);
+        let e = plan::entry_at(&rows, more.count - left);
         longer = with_entry(longer, e);
         left -= 1;
     }

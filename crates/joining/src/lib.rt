@@ -2,10 +2,11 @@
 mod filling;
 
 ghost use mathlib.Core.Path.{_≡_};
-ghost use mathlib.Core.Bool.{false};
+ghost use mathlib.Core.Bool.{true, false};
+ghost use Prim.Native.Nat.{ℕ};
 ghost use lib.ListN.{length};
 ghost use Rattle.joining.specs.Joining.{covers, coveringOf, entriesFrom, entriesOf, kept, spoiltList, answerOf, joinedOf};
-ghost use Rattle.joining.specs.InWords.{Answers};
+ghost use Rattle.joining.specs.InWords.{Covers, FirstCovering, Remain, Answers};
 ghost use Rattle.joining.specs.EndToEnd.{IsAccepted, SameInForce};
 ghost use Rattle.joining.specs.Decided.{SameDecisions};
 ghost use Rattle.joining.specs.Ticked.{SameTicks};
@@ -31,7 +32,8 @@ const ALL_DAYS: u16 = 255;
 
 // Whether the other has an entry's start and all its days.
 pub fn covers(other: Entry, e: Entry) -> bool
-    ensures { λ r. ⌜ r ≡ covers other e ⌝ }
+    ensures is { λ r. ⌜ r ≡ covers other e ⌝ }
+    ensures words { λ r. ⌜ (r ≡ true → Covers other e) × (Covers other e → r ≡ true) ⌝ }
 {
     if other.start != e.start {
         return false;
@@ -43,7 +45,8 @@ pub fn covers(other: Entry, e: Entry) -> bool
 
 // The place from 1 of the first of a plan's entries that covers this one; 0 for none.
 pub fn covering(rows: &[u16], count: u16, e: Entry) -> u16
-    ensures { λ r. ⌜ r ≡ coveringOf (entriesFrom (now (rows .entry)) 0 count) e ⌝ }
+    ensures is { λ r. ⌜ r ≡ coveringOf (entriesFrom (now (rows .entry)) 0 count) e ⌝ }
+    ensures words { λ r. ⌜ FirstCovering (now (rows .entry)) count e r ⌝ }
 {
     let mut i: u16 = 0;
     while i < count {
@@ -58,7 +61,8 @@ pub fn covering(rows: &[u16], count: u16, e: Entry) -> u16
 
 // How many entries of the first list would remain: those that none of the second covers.
 pub fn remaining(first: PlanList, second: PlanList) -> u16
-    ensures { λ r. ⌜ r ≡ length (kept (entriesOf first) (entriesOf second)) ⌝ }
+    ensures is { λ r. ⌜ r ≡ length (kept (entriesOf first) (entriesOf second)) ⌝ }
+    ensures words { λ r. ⌜ ((from : ℕ → ℕ) × Remain first second r from) ⌝ }
 {
     let rows = first.rows;
     let others = second.rows;
@@ -105,6 +109,6 @@ pub fn join(first: PlanList, second: PlanList) -> Joined
     }
     Joined {
         refusal: 0,
-        list: filling::append(kept, &works, second.count),
+        list: filling::append(kept, second),
     }
 }

@@ -1,4 +1,5 @@
 -- The loop's invariant: the entries left answer as all do.
+use Rattle.joining.proofs.CoversLaws.{first-covering}
 use Rattle.joining.proofs.Turns.{one-entry, no-entry}
 use Rattle.joining.specs.Joining.{covers, coveringFrom, entriesFrom}
 use Rattle.plan.specs.Entry.{entryOf}
@@ -35,8 +36,8 @@ returns c =
     let h = c .before .before .before .before in
     let a = h .before .before .args in
     let t : covers (entryOf (now (a .rows)) (h .loop .i)) (a .e) ≡ true =
-    sym (ap (λ (x : Entry). covers x (a .e)) (c .before .before .entry-at .ensures)) ∙ sym (c .before .covers .ensures) ∙ c .if1 .taken in
-    rw (one-entry (now (a .rows)) (h .loop .i) (a .count) (search needs), t) at (h .loop .inv .1)
+    sym (ap (λ (x : Entry). covers x (a .e)) (c .before .before .entry-at .ensures)) ∙ sym (c .before .covers .ensures .0) ∙ c .if1 .taken in
+    first-covering (now (a .rows)) (a .count) (a .e) _ (rw (one-entry (now (a .rows)) (h .loop .i) (a .count) (search needs), t) at (h .loop .inv .1))
 
 add-i : tie.Need-add-i Inv-loop μ-loop
 add-i c = search needs
@@ -49,14 +50,14 @@ loop-again c =
     let h = c .before .before .before .before in
     let a = h .before .before .args in
     let f : covers (entryOf (now (a .rows)) (h .loop .i)) (a .e) ≡ false =
-    sym (ap (λ (x : Entry). covers x (a .e)) (c .before .before .entry-at .ensures)) ∙ sym (c .before .covers .ensures) ∙ c .if1 .left in
+    sym (ap (λ (x : Entry). covers x (a .e)) (c .before .before .entry-at .ensures)) ∙ sym (c .before .covers .ensures .0) ∙ c .if1 .left in
     (search needs, rw (one-entry (now (a .rows)) (h .loop .i) (a .count) (search needs), f) at (h .loop .inv .1))
 
 returns-2 : tie.Need-returns-2 Inv-loop μ-loop
 returns-2 c =
     let h = c .before in
     let a = h .before .before .args in
-    rw (no-entry (now (a .rows)) (h .loop .i) (a .count) (search needs)) at (h .loop .inv .1)
+    first-covering (now (a .rows)) (a .count) (a .e) _ (rw (no-entry (now (a .rows)) (h .loop .i) (a .count) (search needs)) at (h .loop .inv .1))
 
 pub covering-spec : {M : Type 1} → statement M
 covering-spec =

@@ -78,15 +78,12 @@ returns-3 c =
     let a = none .before .args in
     promised (a .first) (a .second) _ (c .answer3 .ensures ∙ ap (answerOf 17) (none .empty .ensures) ∙ too-many (a .first) (a .second) (sound-first f) (sound-second g) _ (k .keep .ensures) (c .before .if3 .taken))
 
-slice-aggregate-append : tie.Need-slice-aggregate-append
-slice-aggregate-append c = search needs
-
 append-requires : tie.Need-append-requires
 append-requires c κs = search needs
 
 returns-4 : tie.Need-returns-4
 returns-4 c =
-    let t = c .before .before in
+    let t = c .before in
     let k = t .before .before .before in
     let g = k .before .before .before in
     let f = g .before .before .before in
@@ -110,6 +107,5 @@ join-spec =
     add-if3
     answer-requires-3
     returns-3
-    slice-aggregate-append
     append-requires
     returns-4)

@@ -1,7 +1,8 @@
 -- The loop's invariant: those counted, and those kept of the entries left, are as many as are kept of all.
 use Rattle.joining.proofs.Turns.{one-entry, no-entry}
+use Rattle.joining.proofs.Words.{kept-remain}
 use Rattle.joining.proofs.CoveringLaws.{not-covered, covered}
-use Rattle.joining.specs.Joining.{entriesFrom, coveringOf, kept}
+use Rattle.joining.specs.Joining.{entriesFrom, entriesOf, coveringOf, kept}
 use Rattle.plan.specs.declared.Entry.{Entry}
 use Rattle.plan.specs.Entry.{entryOf}
 use Prim.Native.Nat.{_+_, _≤_, _-_}
@@ -53,7 +54,7 @@ loop-again c =
     let e = entryOf (a .first .rows) (h .loop .i) in
     let one = one-entry (a .first .rows) (h .loop .i) (a .first .count) (search needs) in
     let same : c .before .covering .result ≡ coveringOf es e =
-    c .before .covering .ensures ∙ ap (λ (x : Entry). coveringOf es x) (c .before .before .before .entry-at .ensures) in (
+    c .before .covering .ensures .0 ∙ ap (λ (x : Entry). coveringOf es x) (c .before .before .before .entry-at .ensures) in (
       search needs,
       ⊎-elim
           (λ w. let left = (rw (one, not-covered es e 0 (sym same ∙ w .0 .taken)) at (h .loop .inv .1 .1)) in rw (w .1) (omega (arith, h .loop .inv .1 .0), omega arith))
@@ -65,7 +66,9 @@ returns : tie.Need-returns Inv-loop μ-loop
 returns c =
     let h = c .before .before in
     let a = h .before .before .before .args in
-    let left = (rw (no-entry (a .first .rows) (h .loop .i) (a .first .count) (search needs)) at (h .loop .inv .1 .1)) in omega arith
+    let left = (rw (no-entry (a .first .rows) (h .loop .i) (a .first .count) (search needs)) at (h .loop .inv .1 .1)) in
+    let all : h .loop .many ≡ length (kept (entriesOf (a .first)) (entriesOf (a .second))) = omega arith in
+    (all, kept-remain (a .first) (a .second) _ all)
 
 pub remaining-spec : {M : Type 1} → statement M
 remaining-spec =

@@ -32,8 +32,8 @@ returns c =
     let other = now (a .other) in
     let text = reportOf name (planOf (a .site)) other (planOf (a .works)) in
     let same = ap₂ (λ (x y : PlanList). reportOf name x other y) (c .before .before .plan-of .ensures) (c .before .plan-of2 .ensures) in
-    let room : length (now (a .out)) ≡ 133456 = search needs in
-    let l : length (now (a .out)) < farthest = omega arith in
+    let room : 133456 ≤ length (now (a .out)) = search needs in
+    let l : length (now (a .out)) < farthest = search needs in
     let f = put-front l (omega (arith, report-most name (a .site) other (a .works) (s .pre))) (put-as same (c .put-report .ensures)) in
     (f .0, f .1 ∙ ap (λ n. text ++ drop n (now (a .out))) (sym (f .0)))
 

@@ -29,7 +29,7 @@ returns c =
     let e = k .before .before in
     let s = e .before .before .before .before .before .before .before in
     let a = s .args in
-    put-as (no-line (now (a .name)) (a .first) (now (a .other)) (a .second) (a .i) _ (e .entry-at .ensures) _ (k .covering .ensures) (c .if1 .taken)) (put-nothing _ _ (place-fits s))
+    put-as (no-line (now (a .name)) (a .first) (now (a .other)) (a .second) (a .i) _ (e .entry-at .ensures) _ (k .covering .ensures .0) (c .if1 .taken)) (put-nothing _ _ (place-fits s))
 
 slice-aggregate-entry-at-2 : tie.Need-slice-aggregate-entry-at-2
 slice-aggregate-entry-at-2 c = search needs
@@ -60,7 +60,7 @@ returns-2 c =
     let k = t .before in
     let e = k .before .before in
     let a = e .before .before .before .before .before .before .before .args in
-    put-as (one-line (now (a .name)) (a .first) (now (a .other)) (a .second) (a .i) _ (e .entry-at .ensures) _ (k .covering .ensures) (t .if1 .left) _ (b .entry-at2 .ensures)) (d .put-dropped .ensures)
+    put-as (one-line (now (a .name)) (a .first) (now (a .other)) (a .second) (a .i) _ (e .entry-at .ensures) _ (k .covering .ensures .0) (t .if1 .left) _ (b .entry-at2 .ensures)) (d .put-dropped .ensures)
 
 pub put-line-spec : {M : Type 1} → statement M
 put-line-spec =

@@ -13,7 +13,7 @@ same-length : tie.Need-same-length
 same-length c = search needs
 
 returns : tie.Need-returns
-returns c = let p = c .before .before in rw (← p .before .remaining .ensures) (p .put-too-many .ensures)
+returns c = let p = c .before .before in rw (← p .before .remaining .ensures .0) (p .put-too-many .ensures)
 
 pub put-remaining-spec : {M : Type 1} → statement M
 put-remaining-spec =

@@ -56,7 +56,7 @@ loop-again c =
     let e = entryOf (now (a .rows)) (h .loop .i) in
     let one = one-entry (now (a .rows)) (h .loop .i) (a .count) (search needs) in
     let same : c .before .covering .result ≡ coveringOf es e =
-    c .before .covering .ensures ∙ ap (λ (x : Entry). coveringOf es x) (c .before .before .entry-at .ensures) in (
+    c .before .covering .ensures .0 ∙ ap (λ (x : Entry). coveringOf es x) (c .before .before .entry-at .ensures) in (
       search needs,
       ⊎-elim
           (λ w. let l = w .2 ∙ w .1 .ensures ∙ ap (λ (x : Entry). withEntry (h .loop .list) x) (c .before .before .entry-at .ensures) in
