@@ -8,8 +8,11 @@ ghost use Prim.Native.Nat.{_≤_};
 use joining::PlanList;
 use year::Asked;
 
+// The numbers of a list's rows; the holidays have as many.
+const NUMBERS: usize = ranges::MOST_ENTRY_NUMBERS;
+
 // Where a case's numbers stand.
-const SECOND: usize = 1 + ranges::MOST_ENTRY_NUMBERS;
+const SECOND: usize = 1 + NUMBERS;
 
 const YEAR: usize = 2 * SECOND;
 
@@ -17,13 +20,13 @@ const HOLIDAYS: usize = YEAR + 1;
 
 const DATES: usize = HOLIDAYS + 1;
 
-// 80 numbers of a case, from number `at` on.
-fn numbers_at(case: &[u8], at: usize) -> [u16; 80]
+// So many numbers of a case, from number `at` on.
+fn numbers_at(case: &[u8], at: usize) -> [u16; NUMBERS]
     requires { ⌜ at ≤ 1000 ⌝ }
 {
-    let mut rows = [0u16; 80];
+    let mut rows = [0u16; NUMBERS];
     let mut i: usize = 0;
-    while i < 80 {
+    while i < NUMBERS {
         rows[i] = numbers::word(case, at + i);
         i += 1;
     }
@@ -44,7 +47,7 @@ fn put_list(out: &mut [u8], at: usize, list: PlanList) -> usize {
     let rows = list.rows;
     let mut p = phrases::put_blank_and_decimal(out, at, list.count as u64);
     let mut i: usize = 0;
-    while i < 80 {
+    while i < NUMBERS {
         p = phrases::put_blank_and_decimal(out, p, rows[i] as u64);
         i += 1;
     }

@@ -46,7 +46,7 @@ fn with_place(asked: Asked, rows: &[u16], place: u16) -> Asked {
 // The entry of a list that is in force on a date at a minute.
 fn ask(
     asked: Asked,
-    dates: [u16; 80],
+    dates: [u16; ranges::MOST_HOLIDAY_NUMBERS],
     holidays: u16,
     joined: PlanList,
     today: Date,
@@ -67,7 +67,7 @@ fn minute_before(minute: u16) -> u16 {
 // At each start of a list, and the minute before it.
 fn ask_at_starts(
     before: Asked,
-    dates: [u16; 80],
+    dates: [u16; ranges::MOST_HOLIDAY_NUMBERS],
     holidays: u16,
     joined: PlanList,
     today: Date,
@@ -95,7 +95,7 @@ fn ask_at_starts(
 // On a date, if there is such a one.
 fn ask_on(
     asked: Asked,
-    dates: [u16; 80],
+    dates: [u16; ranges::MOST_HOLIDAY_NUMBERS],
     holidays: u16,
     joined: PlanList,
     first: PlanList,
@@ -113,7 +113,7 @@ fn ask_on(
 
 fn ask_in_month(
     before: Asked,
-    dates: [u16; 80],
+    dates: [u16; ranges::MOST_HOLIDAY_NUMBERS],
     holidays: u16,
     joined: PlanList,
     first: PlanList,
@@ -132,7 +132,7 @@ fn ask_in_month(
 // On every date of a year.
 pub fn asked_in(
     year: u16,
-    dates: [u16; 80],
+    dates: [u16; ranges::MOST_HOLIDAY_NUMBERS],
     holidays: u16,
     joined: PlanList,
     first: PlanList,

@@ -23,7 +23,7 @@ use Rattle.site.specs.Record.{spoiltOf, spoiltSite}
 use Rattle.site.specs.Writing.{bytesOf, refusalOf, writtenOf, outOf}
 use Rattle.joining.specs.declared.Joined.{Joined}
 use Rattle.joining.specs.Joining.{spoiltList}
-use Rattle.joining.specs.Ticked.{withList}
+use Rattle.joining.specs.Decided.{withList}
 use Rattle.joining.proofs.AnswerLaws.{filed-refusal}
 use Rattle.joining.proofs.SameTicks.{still-sound}
 use Rattle.join_plans.specs.JoinedSite.{planOf, joinedPlans, joinedSite, joinRefusal, joinWritten, joinOut}

@@ -1,4 +1,4 @@
--- An entry's line, from what the code finds; how long a report is at most.
+-- An entry's line, from what the code finds; how long the texts are at most.
 use Prim.Native.Nat.{ℕ, _+_, _-_, _≤_, _<_}
 use mathlib.Core.Path.{_≡_, sym, ap, _∙_}
 use mathlib.Core.List.{List, []}
@@ -8,23 +8,25 @@ use lib.Dec.{eqb}
 use lib.ListN.{length, length-append}
 use Rattle.loops.proofs.Cases.{by-test}
 use Rattle.text.proofs.DecimalLaws.{decimal-most}
+use Rattle.phrases.specs.Phrases.{refusedLine}
+use Rattle.phrases.specs.Wrong.{tradeWord, openingText, rangeText, allowedText}
 use Rattle.text.proofs.JoinedLaws.{joined-most}
 use Rattle.site.specs.declared.Site.{Site}
 use Rattle.site.proofs.RowLaws.{entries-most, entry-rate-most, entry-table-most}
 use Rattle.plan.specs.declared.Entry.{Entry}
 use Rattle.plan.specs.Entry.{entryOf}
 use Rattle.joining.specs.declared.PlanList.{PlanList}
-use Rattle.joining.specs.Joining.{entriesOf, coveringOf}
-use Rattle.joining.proofs.CoveringLaws.{covering-most}
-use Rattle.joining.proofs.FillingLaws.{entries-length}
+use Rattle.joining.specs.Joining.{entriesOf, coveringOf, kept}
+use Rattle.joining.proofs.CoversLaws.{covering-most}
+use Rattle.joining.proofs.FillingLaws.{entries-length, kept-length}
 use Rattle.entry_text.proofs.Names.{entry-most}
 use Rattle.join_plans.specs.JoinedSite.{planOf}
-use Rattle.join_plans.specs.Report.{filedText, droppedLine, lineFor, reportOf, Short}
+use Rattle.join_plans.specs.Report.{filedText, droppedLine, lineFor, reportOf, ofText, sharesText, tooManyText, remainText, ShortNames}
 
 module _ (name : List ℕ) (first : PlanList) (other : List ℕ) (second : PlanList) (i : ℕ)
-    (e : Entry) (entry : e ≡ entryOf (first .rows) i) (place : ℕ) (covering : place ≡ coveringOf (entriesOf second) e) where
-  found : place ≡ coveringOf (entriesOf second) (entryOf (first .rows) i)
-  found = covering ∙ ap (coveringOf (entriesOf second)) entry
+    (e : Entry) (entry : e ≡ entryOf (first .rows) i) (place : ℕ) (covering : place ≡ coveringOf (second .rows) e (second .count)) where
+  found : place ≡ coveringOf (second .rows) (entryOf (first .rows) i) (second .count)
+  found = covering ∙ ap (λ (x : Entry). coveringOf (second .rows) x (second .count)) entry
 
   pub no-line : place ≡ 0 → [] ≡ lineFor name first other second i
   unfolding lineFor
@@ -44,13 +46,13 @@ dropped-most : (name : List ℕ) (e : Entry) (place : ℕ) (other : List ℕ) (b
 unfolding droppedLine
 dropped-most name e place other by at h g = simp length-append (omega arith)
 
-module _ (name : List ℕ) (x : Site) (other : List ℕ) (works : Site) (s : Short name x other works) where
+module _ (name : List ℕ) (x : Site) (other : List ℕ) (works : Site) (s : ShortNames name x other works) where
   line-most : (i : ℕ) → i < x .entries → length (lineFor name (planOf x) other (planOf works) i) ≤ 8341
   unfolding lineFor
   line-most i h =
       let e = entryOf (x .plan) i in
-      let place = coveringOf (entriesOf (planOf works)) e in
-      let there : place ≤ works .entries = omega (arith, covering-most (entriesOf (planOf works)) e 0, entries-length (works .plan) 0 (works .entries)) in
+      let place = coveringOf (works .plan) e (works .entries) in
+      let there : place ≤ works .entries = covering-most (works .plan) e (works .entries) in
       let m = entries-most x (s .site) in
       let n = entries-most works (s .works-site) in
       by-test (eqb place 0)
@@ -66,3 +68,18 @@ module _ (name : List ℕ) (x : Site) (other : List ℕ) (works : Site) (s : Sho
   report-most =
       let m = entries-most x (s .site) in
       omega (arith, joined-most (lineFor name (planOf x) other (planOf works)) 8341 (x .entries) 0 (λ j l h. line-most j (omega arith)))
+
+  pub remain-most : length (remainText 17 name (planOf x) other (planOf works)) ≤ 8268
+  unfolding tooManyText sharesText ofText refusedLine openingText tradeWord allowedText rangeText
+  remain-most =
+      let many = length (kept (entriesOf (planOf x)) (entriesOf (planOf works))) in
+      let m : many ≤ 16 =
+      omega (arith, entries-most x (s .site), kept-length (entriesOf (planOf x)) (entriesOf (planOf works)), entries-length (x .plan) 0 (x .entries)) in
+      let n = entries-most works (s .works-site) in
+      let a = decimal-most 1 many (omega arith) in
+      let b = decimal-most 1 (works .entries) (omega arith) in
+      let c = decimal-most 1 (many + works .entries) (omega arith) in
+      let d = decimal-most 1 17 (omega arith) in
+      let e = decimal-most 0 0 (omega arith) in
+      let f = decimal-most 1 16 (omega arith) in
+      simp length-append (omega (arith, s .name-most, s .other-most))

@@ -1,4 +1,4 @@
--- The first site with the plan that joins both: "the first with the joined plan, as a site file".
+-- The first site with the plan that joins both, as a site file.
 use Prim.Native.Nat.{ℕ}
 use mathlib.Core.Bool.{cond}
 use mathlib.Core.List.{List}
@@ -10,7 +10,7 @@ use Rattle.site.specs.Writing.{bytesOf, refusalOf}
 use Rattle.joining.specs.declared.PlanList.{PlanList}
 use Rattle.joining.specs.declared.Joined.{Joined}
 use Rattle.joining.specs.Joining.{joinedOf}
-use Rattle.joining.specs.Ticked.{withList}
+use Rattle.joining.specs.Decided.{withList}
 
 -- A site's plan.
 abbrev pub planOf : Site → PlanList

@@ -29,11 +29,11 @@ unfoldable pub droppedLine : List ℕ → Entry → ℕ → List ℕ → Entry �
 droppedLine name e place other by at =
     ascii "dropped: " ++ (filedText e name place ++ (ascii ", covered by " ++ (filedText by other at ++ ascii "\n")))
 
--- Of entry i of the first list: its line, if an entry of the second covers it; the first such one is named.
+-- Of entry i of the first list: its line, if an entry of the second covers it. The last such one is named: it takes the place.
 unfoldable pub lineFor : List ℕ → PlanList → List ℕ → PlanList → ℕ → List ℕ
 lineFor name first other second i =
     let e : Entry = entryOf (first .rows) i in
-    let place : ℕ = coveringOf (entriesOf second) e in
+    let place : ℕ = coveringOf (second .rows) e (second .count) in
     cond (eqb place 0) [] (droppedLine name e (i + 1) other (entryOf (second .rows) (place - 1)) place)
 
 -- Each in filed order.
@@ -48,17 +48,17 @@ ofText many name = decimal many ++ (ascii " of " ++ name)
 unfoldable pub sharesText : ℕ → List ℕ → ℕ → List ℕ → List ℕ
 sharesText first name second other = ascii " (" ++ (ofText first name ++ (ascii ", " ++ (ofText second other ++ ascii ")\n")))
 
--- The refusal 17, and in words: `too many entries: 17 would remain, allowed 0-16 (2 of site.bin, 15 of works.bin)`.
-unfoldable pub tooManyText : ℕ → List ℕ → ℕ → List ℕ → List ℕ
-tooManyText first name second other =
-    refusedLine 17
-    ++ (openingText 17 ++ (decimal (first + second) ++ (ascii " would remain" ++ (allowedText 0 (greatestOf Entries) ++ sharesText first name second other))))
+-- The refusal, and in words: `too many entries: 17 would remain, allowed 0-16 (2 of site.bin, 15 of works.bin)`.
+unfoldable pub tooManyText : ℕ → ℕ → List ℕ → ℕ → List ℕ → List ℕ
+tooManyText refusal first name second other =
+    refusedLine refusal
+    ++ (openingText refusal ++ (decimal (first + second) ++ (ascii " would remain" ++ (allowedText 0 (greatestOf Entries) ++ sharesText first name second other))))
 
-abbrev pub remainText : List ℕ → PlanList → List ℕ → PlanList → List ℕ
-remainText name first other second = tooManyText (length (kept (entriesOf first) (entriesOf second))) name (second .count) other
+abbrev pub remainText : ℕ → List ℕ → PlanList → List ℕ → PlanList → List ℕ
+remainText refusal name first other second = tooManyText refusal (length (kept (entriesOf first) (entriesOf second))) name (second .count) other
 
--- What the report's length rests on: names of 4096 bytes at most, and two sites that a file could give.
-pub record Short (name : List ℕ) (x : Site) (other : List ℕ) (works : Site) : Type 0 where
+-- What the lengths of these texts rest on: names of 4096 bytes at most, and two sites that a file could give.
+pub record ShortNames (name : List ℕ) (x : Site) (other : List ℕ) (works : Site) : Type 0 where
   pub name-most : length name ≤ 4096
   pub other-most : length other ≤ 4096
   pub site : spoiltSite x ≡ false

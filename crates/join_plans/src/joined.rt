@@ -6,7 +6,7 @@ ghost use Prim.Native.Nat.{_≤_};
 ghost use lib.ListN.{length, take};
 ghost use Rattle.site.specs.Record.{spoiltSite};
 ghost use Rattle.site.specs.Reading.{longestFile, readOf};
-ghost use Rattle.joining.specs.Ticked.{withList};
+ghost use Rattle.joining.specs.Decided.{withList};
 ghost use Rattle.join_plans.specs.JoinedSite.{planOf, joinedSite, joinWritten, joinOut};
 use joining::PlanList;
 use output::Written;

@@ -3,44 +3,40 @@
 mod joined;
 mod report;
 
+ghost use mathlib.Core.Path.{_≡_};
 ghost use Prim.Native.Nat.{_≤_};
 ghost use lib.ListN.{length};
-ghost use Rattle.join_plans.specs.Report.{Short};
+ghost use Rattle.join_plans.specs.Report.{ShortNames};
 use libc::STDERR_FILENO;
 use site::Site;
-use site_program::AskedSite;
 
 const USAGE: [u8; 42] = *b"usage: join_plans SITE ROADWORKS > JOINED\n";
 
 // How many would remain, on standard error.
-fn print_remaining(name: &[u8], site: Site, other: &[u8], works: Site) {
-    let mut text = io::large_buffer();
-    let n = report::put_remaining(
-        &mut text,
-        name,
-        joined::plan_of(site),
-        other,
-        joined::plan_of(works),
-    );
-    site_program::write_error(STDERR_FILENO, &text, n);
+fn print_remaining(refusal: u8, name: &[u8], site: Site, other: &[u8], works: Site)
+    requires { ⌜ (refusal ≡ 17) × ShortNames (now name) site (now other) works ⌝ }
+{
+    let mut text = [0u8; report::REMAINING_ROOM];
+    let n = report::fill_remaining(&mut text, refusal, name, site, other, works);
+    io::write_all(STDERR_FILENO, &text[..n]);
 }
 
 // Which entries are dropped, on standard error.
 fn print_report(name: &[u8], site: Site, other: &[u8], works: Site)
-    requires { ⌜ Short (now name) site (now other) works ⌝ }
+    requires { ⌜ ShortNames (now name) site (now other) works ⌝ }
 {
-    let mut text = [0u8; report::LONGEST_REPORT];
+    let mut text = [0u8; report::REPORT_ROOM];
     let n = report::fill_report(&mut text, name, site, other, works);
     io::write_all(STDERR_FILENO, &text[..n]);
 }
 
 fn print_joined(name: &[u8], site: Site, other: &[u8], works: Site)
-    requires { ⌜ Short (now name) site (now other) works ⌝ }
+    requires { ⌜ ShortNames (now name) site (now other) works ⌝ }
 {
     let mut file = [0u8; site_reader::FRONT];
     let written = joined::write(site, works, &mut file);
     if written.refusal != 0 {
-        print_remaining(name, site, other, works);
+        print_remaining(written.refusal, name, site, other, works);
         return;
     }
     if site_program::write_front(&file, written.count) {
@@ -64,27 +60,15 @@ fn join_files(name: &[u8], other: &[u8])
     print_joined(name, site, other, works);
 }
 
-// The name that argument i gives; help is printed, and what is no name reported.
-fn asked(i: usize, name: &mut [u8]) -> AskedSite
-    ensures { λ r. ⌜ r .count ≤ length (now (name .exit)) ⌝ }
-{
-    let usage = USAGE;
-    site_program::asked_name(
-        i,
-        &usage,
-        b"Joins the plan of ROADWORKS, a site file, to that of SITE, and writes SITE with the joined plan, as a site file.\nAn entry of SITE is dropped if one of ROADWORKS has the same start and all its days: on standard error stands which, or why\nnothing is written.\ndocs/FORMATS.md describes the site file and the lines.\n",
-        name,
-    )
-}
-
 fn join_asked() {
     let mut name = io::buffer();
     let mut other = io::buffer();
-    let first = asked(1, &mut name);
+    let usage = USAGE;
+    let first = site_program::asked_name(1, b"the first file's name", &usage, &mut name);
     if !first.given {
         return;
     }
-    let second = asked(2, &mut other);
+    let second = site_program::asked_name(2, b"the second file's name", &usage, &mut other);
     if !second.given {
         return;
     }
@@ -95,12 +79,14 @@ fn join_asked() {
 
 // The help, where the one argument asks for it; else how many are wanted.
 fn print_other(count: usize) {
-    let mut name = io::buffer();
+    let usage = USAGE;
     if count == 1 && site_program::asks_help() {
-        asked(1, &mut name);
+        site_program::print_help(
+            &usage,
+            b"Joins the plan of ROADWORKS, a site file, to that of SITE, and writes SITE with the joined plan, as a site file.\nAn entry of SITE is dropped if one of ROADWORKS has the same start and all its days: on standard error stands which, or why\nnothing is written.\ndocs/FORMATS.md describes the site file and the lines.\n",
+        );
         return;
     }
-    let usage = USAGE;
     site_program::print_wanted(count, b"2", &usage);
 }
 

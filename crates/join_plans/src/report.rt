@@ -4,7 +4,7 @@ ghost use mathlib.Core.List.{_++_};
 ghost use lib.ListN.{length, drop};
 ghost use Rattle.text.specs.Put.{Put};
 ghost use Rattle.join_plans.specs.JoinedSite.{planOf};
-ghost use Rattle.join_plans.specs.Report.{filedText, droppedLine, lineFor, reportOf, ofText, sharesText, tooManyText, remainText, Short};
+ghost use Rattle.join_plans.specs.Report.{filedText, droppedLine, lineFor, reportOf, ofText, sharesText, tooManyText, remainText, ShortNames};
 use joining::PlanList;
 use plan::Entry;
 use site::Site;
@@ -83,18 +83,18 @@ pub fn put_report(
     p
 }
 
-// The longest report: 16 lines of 8341 bytes, in each of them the names of both files, of 4096 bytes at most.
-pub const LONGEST_REPORT: usize = 133456;
+// Room for every report: 16 lines of 8341 bytes at the most, with names of 4096 bytes in each.
+pub const REPORT_ROOM: usize = 133456;
 
-// The same in a buffer with room for the longest: how many bytes it has.
+// The same in a buffer with room for it: how many bytes it has.
 pub fn fill_report(
-    out: &mut [u8; LONGEST_REPORT],
+    out: &mut [u8; REPORT_ROOM],
     name: &[u8],
     site: Site,
     other: &[u8],
     works: Site,
 ) -> usize
-    requires { ⌜ Short (now name) site (now other) works ⌝ }
+    requires { ⌜ ShortNames (now name) site (now other) works ⌝ }
     ensures count { λ r. ⌜ r ≡ length (reportOf (now (name .entry)) (planOf site) (now (other .entry)) (planOf works)) ⌝ }
     ensures buffer { λ r. ⌜ now (out .exit) ≡ reportOf (now (name .entry)) (planOf site) (now (other .entry)) (planOf works) ++ drop r (now (out .entry)) ⌝ }
 {
@@ -134,31 +134,66 @@ fn put_shares(
 }
 
 // So many of each file would remain.
-fn put_too_many(out: &mut [u8], first: u16, name: &[u8], second: u16, other: &[u8]) -> usize
-    ensures { λ r. ⌜ Put (now (out .entry)) 0 (tooManyText first (now (name .entry)) second (now (other .entry))) r (now (out .exit)) ⌝ }
+fn put_too_many(
+    out: &mut [u8],
+    refusal: u8,
+    first: u16,
+    name: &[u8],
+    second: u16,
+    other: &[u8],
+) -> usize
+    ensures { λ r. ⌜ Put (now (out .entry)) 0 (tooManyText refusal first (now (name .entry)) second (now (other .entry))) r (now (out .exit)) ⌝ }
 {
-    let a = phrases::put_refused(out, 0, joining::TOO_MANY_ENTRIES);
-    let b = phrases::put_opening(out, a, joining::TOO_MANY_ENTRIES);
+    let a = phrases::put_refused(out, 0, refusal);
+    let b = phrases::put_opening(out, a, refusal);
     let c = text::put_decimal(out, b, first as u64 + second as u64);
     let d = text::put_bytes(out, c, b" would remain");
     let e = phrases::put_allowed(out, d, 0, ranges::MOST_ENTRIES as u64);
     put_shares(out, e, first, name, second, other)
 }
 
-pub fn put_remaining(
+fn put_remaining(
     out: &mut [u8],
+    refusal: u8,
     name: &[u8],
     first: PlanList,
     other: &[u8],
     second: PlanList,
 ) -> usize
-    ensures { λ r. ⌜ Put (now (out .entry)) 0 (remainText (now (name .entry)) first (now (other .entry)) second) r (now (out .exit)) ⌝ }
+    ensures { λ r. ⌜ Put (now (out .entry)) 0 (remainText refusal (now (name .entry)) first (now (other .entry)) second) r (now (out .exit)) ⌝ }
 {
     put_too_many(
         out,
+        refusal,
         joining::remaining(first, second),
         name,
         second.count,
         other,
+    )
+}
+
+// Room for these two lines: 8268 bytes at the most, with names of 4096 bytes.
+pub const REMAINING_ROOM: usize = 8268;
+
+// How many would remain, in a buffer with room for it: how many bytes it has. 17 is the refusal.
+pub fn fill_remaining(
+    out: &mut [u8; REMAINING_ROOM],
+    refusal: u8,
+    name: &[u8],
+    site: Site,
+    other: &[u8],
+    works: Site,
+) -> usize
+    requires { ⌜ (refusal ≡ 17) × ShortNames (now name) site (now other) works ⌝ }
+    ensures count { λ r. ⌜ r ≡ length (remainText 17 (now (name .entry)) (planOf site) (now (other .entry)) (planOf works)) ⌝ }
+    ensures buffer { λ r. ⌜ now (out .exit) ≡ remainText 17 (now (name .entry)) (planOf site) (now (other .entry)) (planOf works) ++ drop r (now (out .entry)) ⌝ }
+{
+    put_remaining(
+        out,
+        refusal,
+        name,
+        crate::joined::plan_of(site),
+        other,
+        crate::joined::plan_of(works),
     )
 }

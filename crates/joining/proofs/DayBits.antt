@@ -2,13 +2,14 @@
 use Prim.Native.Nat.{ℕ, zero, suc, _+_, _*_, _/_, _%_, _^_, _<_, min}
 use mathlib.Core.Path.{_≡_, refl, sym, ap, ap₂, _∙_}
 use mathlib.Core.Bool.{Bool, true, false, not, _&&_, _||_}
-use native.Mathlib.Nat.{zero-min, div-one, mod-one, pow-suc, pow-succ', div-div-eq-div-mul}
+use mathlib.Core.Logic.{⊎-elim}
+use native.Mathlib.Nat.{eq-or-lt-of-le, zero-min, div-one, mod-one, pow-suc, pow-succ', div-div-eq-div-mul}
 use native.Mathlib.Numerals.{add-one}
 use native.Mathlib.Omega.{arith}
-use borrow.Author.Tests.{eq-eqb, ne-eqb, eqb-true, eqb-false}
+use borrow.Author.Tests.{eq-eqb, ne-eqb, eqb-true, eqb-false, le-leb, lt-leb}
 use lib.Arith.{digits-div, digits-mod, mod-mul}
-use lib.Bits.{bitAnd, and-step, and-mask}
-use lib.Dec.{eqb}
+use lib.Bits.{bitAnd, and-step, and-le-l, and-mask}
+use lib.Dec.{leb, eqb}
 use lib.Pow.{pow-pos}
 use Rattle.loops.specs.Any.{anyFrom}
 use Rattle.loops.proofs.Cases.{by-test}
@@ -79,7 +80,18 @@ shares-all (suc n) a b =
     ∙ ap₂ (λ (j k : Bool). j && k) (shares-all n (a / 2) (b / 2) ∙ ap not rest) here
     ∙ neither-nor (misses a b 0) (anyFrom (misses a b) 1 n)
 
+-- What is shared is no more than all, so as much is all.
+no-less : (a b : ℕ) → leb a (bitAnd a b) ≡ eqb (bitAnd a b) a
+no-less a b =
+    let l = and-le-l a b in
+    by-test (eqb (bitAnd a b) a)
+    (λ t. let e = eqb-true (bitAnd a b) a t in le-leb a (bitAnd a b) (omega arith) ∙ sym t)
+    (λ f. let n = eqb-false (bitAnd a b) a f in lt-leb a (bitAnd a b) (⊎-elim (λ (q : bitAnd a b ≡ a). absurd (n q)) (λ (q : bitAnd a b < a). q) (eq-or-lt-of-le l)) ∙ sym f)
+
 -- Of the eight bits of an entry's days.
-pub all-days : (other e : Entry) → eqb (bitAnd (bitAnd (e .days) 255) (other .days)) (bitAnd (e .days) 255) ≡ not (anyFrom (lacks other e) 0 dayTypes)
+pub all-days : (other e : Entry) → leb (bitAnd (e .days) 255) (bitAnd (bitAnd (e .days) 255) (other .days)) ≡ not (anyFrom (lacks other e) 0 dayTypes)
 unfolding lacks onDay
-all-days other e = ap (λ (k : ℕ). eqb (bitAnd k (other .days)) k) (and-mask (e .days) 8) ∙ shares-all 8 (e .days) (other .days)
+all-days other e =
+    no-less (bitAnd (e .days) 255) (other .days)
+    ∙ ap (λ (k : ℕ). eqb (bitAnd k (other .days)) k) (and-mask (e .days) 8)
+    ∙ shares-all 8 (e .days) (other .days)

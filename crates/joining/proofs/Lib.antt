@@ -1,6 +1,5 @@
 pub mod DayBits
 pub mod Turns
-pub mod CoveringLaws
 pub mod FillingLaws
 pub mod JoinLaws
 pub mod Best

@@ -25,8 +25,8 @@ use Rattle.tick.proofs.TickLaws.{refusal-is, tick-is}
 use Rattle.joining.specs.declared.PlanList.{PlanList}
 use Rattle.joining.specs.Joining.{spoiltList}
 use Rattle.joining.specs.EndToEnd.{endToEnd, bothCounts}
-use Rattle.joining.specs.Decided.{withPlan, SameButPlace, SameDecisions}
-use Rattle.joining.specs.Ticked.{SameTick, SameTicks, withList}
+use Rattle.joining.specs.Decided.{withPlan, withList, SameButPlace, SameDecisions}
+use Rattle.joining.specs.Ticked.{SameTick, SameTicks}
 
 -- A tick of two plans with the same wish.
 module _ (x : Site) (u v : List ℕ) (m n : ℕ) (s : State) (i : Input)

@@ -32,6 +32,7 @@ worked = record {
   empty = refl;
   first-spoilt = refl;
   second-spoilt = refl;
+  number-spoilt = refl;
   refused-none = refl;
   laid-some = refl;
   not-of-refused = λ h. Option·none-ne-some (fixed always 101 600) (h [] 0 today 600);

@@ -19,7 +19,7 @@ use Rattle.joining.specs.Joining.{joinedOf}
 abbrev pub rowsOf : PlanList → List ℕ
 rowsOf l = take (sizeOf Entries (l .count)) (l .rows)
 
--- "The two lists simply laid end to end": their rows, of which there are as many as both have.
+-- "The two lists simply laid end to end": the counted rows of the first, then those of the second.
 abbrev pub endToEnd : PlanList → PlanList → List ℕ
 endToEnd first second = rowsOf first ++ rowsOf second
 
@@ -35,7 +35,7 @@ entryAt rows (suc k) = some (entryOf rows k)
 abbrev pub inForceAt : List ℕ → ℕ → List ℕ → ℕ → Date → ℕ → Option Entry
 inForceAt rows count dates holidays today minute = entryAt rows (inForceNow (inForceOf rows count) dates holidays today minute)
 
--- No check refuses the pair. Of a refused one the claim below is false: it gives an empty list (`Worked`).
+-- No check refuses the pair. The claim below does not hold of every refused one, which gives an empty list (`Worked`).
 abbrev pub IsAccepted : PlanList → PlanList → Type 0
 IsAccepted first second = joinedOf first second .refusal ≡ 0
 

@@ -19,15 +19,15 @@ pub record Covers (other e : Entry) : Type 0 where
   pub same-start : other .start ≡ e .start
   pub all-days : (day : ℕ) → onDay (e .days) day ≡ true → onDay (other .days) day ≡ true
 
--- Entry i of the first, the first being 0, "is dropped if one entry of the second" covers it.
+-- Entry i of the first list, counted from 0, "is dropped if one entry of the second" covers it.
 abbrev pub Dropped : PlanList → PlanList → ℕ → Type 0
 Dropped first second i = (j : ℕ) × ((j < second .count) × Covers (entryOf (second .rows) j) (entryOf (first .rows) i))
 
--- Of the first count entries, the one at this place from 1 is the first that covers an entry; at 0, none does.
-pub record FirstCovering (rows : List ℕ) (count : ℕ) (e : Entry) (place : ℕ) : Type 0 where
+-- Of the first count entries, the one at this place from 1 is the last that covers an entry; at 0, none does.
+pub record LastCovering (rows : List ℕ) (count : ℕ) (e : Entry) (place : ℕ) : Type 0 where
   pub none : place ≡ 0 → (j : ℕ) → j < count → Covers (entryOf rows j) e → ⊥
   pub one-of-them : (k : ℕ) → place ≡ k + 1 → (k < count) × Covers (entryOf rows k) e
-  pub first : (k j : ℕ) → place ≡ k + 1 → j < k → Covers (entryOf rows j) e → ⊥
+  pub last : (k j : ℕ) → place ≡ k + 1 → k < j → j < count → Covers (entryOf rows j) e → ⊥
 
 -- So many entries of the first remain, and these are their places: each entry that is not dropped, no other, "in filed order".
 pub record Remain (first second : PlanList) (many : ℕ) (from : ℕ → ℕ) : Type 0 where

@@ -36,13 +36,10 @@ abbrev pub isCovered : List Entry → Entry → Bool
 isCovered [] e = false
 isCovered (other ∷ others) e = covers other e || isCovered others e
 
--- The place from 1 of the first entry that covers this one, the next entry's being i + 1; 0 for none.
-abbrev pub coveringFrom : List Entry → Entry → ℕ → ℕ
-coveringFrom [] e i = 0
-coveringFrom (other ∷ others) e i = cond (covers other e) (i + 1) (coveringFrom others e (i + 1))
-
-abbrev pub coveringOf : List Entry → Entry → ℕ
-coveringOf es e = coveringFrom es e 0
+-- The place from 1 of the last of the first n entries that covers this one, which takes its place; 0 for none.
+abbrev pub coveringOf : List ℕ → Entry → ℕ → ℕ
+coveringOf rows e zero = 0
+coveringOf rows e (suc n) = cond (covers (entryOf rows n) e) (suc n) (coveringOf rows e n)
 
 -- The entries that are not dropped, in their order.
 abbrev pub kept : List Entry → List Entry → List Entry

@@ -10,7 +10,7 @@ use Rattle.tick.specs.declared.Ticked.{Ticked}
 use Rattle.tick.specs.Tick.{acceptedTick, tickOf}
 use Rattle.joining.specs.declared.PlanList.{PlanList}
 use Rattle.joining.specs.EndToEnd.{endToEnd, bothCounts}
-use Rattle.joining.specs.Decided.{withPlan, SameButPlace}
+use Rattle.joining.specs.Decided.{withPlan, withList, SameButPlace}
 
 -- Two ticks give the same, apart from the place of the entry in force.
 pub record SameTick (a b : Ticked) : Type 0 where
@@ -21,9 +21,6 @@ pub record SameTick (a b : Ticked) : Type 0 where
   pub cycle : a .cycle ≡ b .cycle
   pub released : a .released ≡ b .released
   pub bypass : a .bypass ≡ b .bypass
-
-abbrev pub withList : Site → PlanList → Site
-withList x list = withPlan x (list .rows) (list .count)
 
 pub record SameTicks (first second list : PlanList) : Type 0 where
   -- The list refuses no tick that the site took with its own plan, and lets none pass that the site refused.

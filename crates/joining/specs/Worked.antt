@@ -45,12 +45,15 @@ abbrev minutes : ℕ → ℕ → List Entry
 minutes zero start = []
 minutes (suc n) start = fixed always start 600 ∷ minutes n (start + 1)
 
--- A count of 17, and a sixteenth row behind a count of 15.
+-- A count of 17, a sixteenth row behind a count of 15, and a start at minute 1440.
 abbrev above : PlanList
 above = record { rows = listOf (minutes 16 0) .rows; count = 17 }
 
 abbrev beyond : PlanList
 beyond = record { rows = listOf (minutes 16 0) .rows; count = 15 }
+
+abbrev tooLate : PlanList
+tooLate = listOf (fixed always 1440 600 ∷ [])
 
 -- A pair that is refused with 17, and a Monday.
 abbrev standing : PlanList
@@ -83,9 +86,10 @@ pub record Worked : Type 0 where
   pub both-full : joinedFrom (minutes 16 0) (minutes 16 0) ≡ given (minutes 16 0)
   pub thirty-two : joinedFrom (minutes 16 0) (minutes 16 16) ≡ refusedWith 17
   pub empty : joinedFrom [] [] ≡ given []
-  -- 14, for either list, and before 17.
+  -- 14, for either list, and before 17: 15 and 15 would remain.
   pub first-spoilt : joinedOf above works ≡ refusedWith 14
-  pub second-spoilt : joinedOf standing beyond ≡ refusedWith 14
+  pub second-spoilt : joinedOf (listOf (minutes 15 100)) beyond ≡ refusedWith 14
+  pub number-spoilt : joinedOf works tooLate ≡ refusedWith 14
   -- The pair that is refused with 17 gives an empty list, and so no entry is in force; of the two laid end to end one is.
   pub refused-none : inForceAt (joinedOf standing works .list .rows) (joinedOf standing works .list .count) [] 0 today 600 ≡ none
   pub laid-some : inForceAt (endToEnd standing works) (bothCounts standing works) [] 0 today 600 ≡ some (fixed always 101 600)

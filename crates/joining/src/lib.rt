@@ -5,14 +5,15 @@ ghost use mathlib.Core.Path.{_≡_};
 ghost use mathlib.Core.Bool.{true, false};
 ghost use Prim.Native.Nat.{ℕ};
 ghost use lib.ListN.{length};
-ghost use Rattle.joining.specs.Joining.{covers, coveringOf, entriesFrom, entriesOf, kept, spoiltList, answerOf, joinedOf};
-ghost use Rattle.joining.specs.InWords.{Covers, FirstCovering, Remain, Answers};
+ghost use Rattle.joining.specs.Joining.{covers, coveringOf, entriesOf, kept, spoiltList, answerOf, joinedOf};
+ghost use Rattle.joining.specs.InWords.{Covers, LastCovering, Remain, Answers};
 ghost use Rattle.joining.specs.EndToEnd.{IsAccepted, SameInForce};
 ghost use Rattle.joining.specs.Decided.{SameDecisions};
 ghost use Rattle.joining.specs.Ticked.{SameTicks};
 use plan::Entry;
 
-// A plan's rows of 5 and how many there are, as a site record has them; rows beyond the count are 0.
+// A plan's rows of 5 and how many there are, as a site record has them. Any numbers are taken: 14 is the answer to
+// those that no file could give.
 pub struct PlanList {
     pub rows: [u16; ranges::MOST_ENTRY_NUMBERS],
     pub count: u16,
@@ -39,22 +40,22 @@ pub fn covers(other: Entry, e: Entry) -> bool
         return false;
     }
     let days = e.days & ALL_DAYS;
-    let shared = days & other.days;
-    shared == days
+    let shared = days & other.days; // no more than these
+    days <= shared
 }
 
-// The place from 1 of the first of a plan's entries that covers this one; 0 for none.
+// The place from 1 of the last of a plan's entries that covers this one; 0 for none.
 pub fn covering(rows: &[u16], count: u16, e: Entry) -> u16
-    ensures is { λ r. ⌜ r ≡ coveringOf (entriesFrom (now (rows .entry)) 0 count) e ⌝ }
-    ensures words { λ r. ⌜ FirstCovering (now (rows .entry)) count e r ⌝ }
+    ensures is { λ r. ⌜ r ≡ coveringOf (now (rows .entry)) e count ⌝ }
+    ensures words { λ r. ⌜ LastCovering (now (rows .entry)) count e r ⌝ }
 {
-    let mut i: u16 = 0;
-    while i < count {
-        let other = plan::entry_at(rows, i);
+    let mut left = count;
+    while 0 < left {
+        let other = plan::entry_at(rows, left - 1);
         if covers(other, e) {
-            return i + 1;
+            return left;
         }
-        i += 1;
+        left -= 1;
     }
     0
 }

@@ -59,19 +59,20 @@ fn nothing_asked() -> AskedSite
     }
 }
 
-fn print_help(usage: &[u8], help: &[u8]) {
+pub fn print_help(usage: &[u8], help: &[u8]) {
     if write_out(usage) {
         write_out(help);
     }
 }
 
-// An argument that is empty, or longer than any name.
-fn print_no_name(error: i32) {
+// An argument that is empty, or longer than any name; `what` says which it is.
+fn print_no_name(error: i32, what: &[u8]) {
     if error != 0 {
-        os::fail(b"the site file's name");
+        os::fail(what);
         return;
     }
-    io::write_all(STDERR_FILENO, b"the site file's name is empty\n");
+    io::write_all(STDERR_FILENO, what);
+    io::write_all(STDERR_FILENO, b" is empty\n");
 }
 
 fn print_no_option(argument: &[u8], usage: &[u8]) {
@@ -122,40 +123,23 @@ fn default_name(name: &mut [u8]) -> AskedSite
     }
 }
 
-// Gives the name of n bytes that arguments ask for, or prints the help that they ask for, or reports what is wrong with them.
-fn answered(
-    asked: Asked,
-    count: usize,
-    n: usize,
-    error: i32,
-    usage: &[u8],
-    help: &[u8],
-    name: &mut [u8],
-) -> AskedSite
+// An argument that is a site file's name of n bytes, or what is wrong with it.
+fn named(asked: Asked, n: usize, error: i32, what: &[u8], usage: &[u8], name: &[u8]) -> AskedSite
     requires { ⌜ Counts n (now name) ⌝ }
-    ensures { λ r. ⌜ r .count ≤ length (now (name .exit)) ⌝ }
+    ensures { λ r. ⌜ r .count ≤ n ⌝ }
 {
     match asked {
-        Asked::Default => default_name(name),
         Asked::Named => AskedSite {
             given: true,
             named: true,
             count: n,
         },
-        Asked::Help => {
-            print_help(usage, help);
-            nothing_asked()
-        }
         Asked::NoName => {
-            print_no_name(error);
+            print_no_name(error, what);
             nothing_asked()
         }
-        Asked::NoOption => {
+        _ => {
             print_no_option(&name[..n], usage);
-            nothing_asked()
-        }
-        Asked::TooMany => {
-            print_wanted(count, b"at most 1", usage);
             nothing_asked()
         }
     }
@@ -169,16 +153,26 @@ pub fn asked_site(usage: &[u8], help: &[u8], name: &mut [u8]) -> AskedSite
     let count = arguments_given();
     let n = os::arg(1, name);
     let error = os::errno();
-    let asked = asked_by(count, &name[..n]);
-    answered(asked, count, n, error, usage, help, name)
+    match asked_by(count, &name[..n]) {
+        Asked::Default => default_name(name),
+        Asked::Help => {
+            print_help(usage, help);
+            nothing_asked()
+        }
+        Asked::TooMany => {
+            print_wanted(count, b"at most 1", usage);
+            nothing_asked()
+        }
+        asked => named(asked, n, error, b"the site file's name", usage, name),
+    }
 }
 
-// The same of argument i, one of several that each name a site file.
-pub fn asked_name(i: usize, usage: &[u8], help: &[u8], name: &mut [u8]) -> AskedSite
+// The site file that argument i names, one of several; `what` says which. Help is not asked for among them.
+pub fn asked_name(i: usize, what: &[u8], usage: &[u8], name: &mut [u8]) -> AskedSite
     ensures { λ r. ⌜ r .count ≤ length (now (name .exit)) ⌝ }
 {
     let n = os::arg(i, name);
     let error = os::errno();
     let asked = asked_by(1, &name[..n]);
-    answered(asked, 1, n, error, usage, help, name)
+    named(asked, n, error, what, usage, name)
 }

@@ -1,4 +1,4 @@
--- The loop ends after 80 numbers, of which the array has room.
+-- The loop ends after 80 numbers, for which the array has room.
 use Prim.Native.Nat.{_-_}
 use borrow.Author.Needs.{needs}
 use Rattle.join_cases.proofs.numbers_at.Statement.{statement}

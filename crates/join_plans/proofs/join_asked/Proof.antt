@@ -13,20 +13,32 @@ buffer-requires c κs = search needs
 buffer-requires-2 : tie.Need-buffer-requires-2
 buffer-requires-2 c κs = search needs
 
-slice-aggregate-asked : tie.Need-slice-aggregate-asked
-slice-aggregate-asked c = search needs
+slice-aggregate-asked-name : tie.Need-slice-aggregate-asked-name
+slice-aggregate-asked-name c = search needs
 
-asked-requires : tie.Need-asked-requires
-asked-requires c κs = search needs
+slice-aggregate-asked-name-2 : tie.Need-slice-aggregate-asked-name-2
+slice-aggregate-asked-name-2 c = search needs
+
+slice-aggregate-asked-name-3 : tie.Need-slice-aggregate-asked-name-3
+slice-aggregate-asked-name-3 c = search needs
+
+asked-name-requires : tie.Need-asked-name-requires
+asked-name-requires c κs = search needs
 
 returns : tie.Need-returns
 returns c = search needs
 
-slice-aggregate-asked-2 : tie.Need-slice-aggregate-asked-2
-slice-aggregate-asked-2 c = search needs
+slice-aggregate-asked-name-4 : tie.Need-slice-aggregate-asked-name-4
+slice-aggregate-asked-name-4 c = search needs
 
-asked-requires-2 : tie.Need-asked-requires-2
-asked-requires-2 c κs = search needs
+slice-aggregate-asked-name-5 : tie.Need-slice-aggregate-asked-name-5
+slice-aggregate-asked-name-5 c = search needs
+
+slice-aggregate-asked-name-6 : tie.Need-slice-aggregate-asked-name-6
+slice-aggregate-asked-name-6 c = search needs
+
+asked-name-requires-2 : tie.Need-asked-name-requires-2
+asked-name-requires-2 c κs = search needs
 
 returns-2 : tie.Need-returns-2
 returns-2 c = search needs
@@ -46,10 +58,10 @@ slice-aggregate-join-files-2 c = sym (length-take-le _ _ (search needs))
 join-files-requires : tie.Need-join-files-requires
 join-files-requires c κs =
     let b = c .before .before .before .before .before in
-    let a = b .before .before .before .before .before in
-    let m : length (b .asked2 .last .1 .0) ≡ 4096 = search needs in
-    let n : length (a .asked .last .1 .0) ≡ 4096 = search needs in
-    (omega (arith, length-take (a .asked .result .count) (a .asked .last .1 .0)), omega (arith, length-take (b .asked2 .result .count) (b .asked2 .last .1 .0)))
+    let a = b .before .before .before .before .before .before .before in
+    let m : length (b .asked-name2 .last .1 .1 .1 .0) ≡ 4096 = search needs in
+    let n : length (a .asked-name .last .1 .1 .1 .0) ≡ 4096 = search needs in
+    (omega (arith, length-take (a .asked-name .result .count) (a .asked-name .last .1 .1 .1 .0)), omega (arith, length-take (b .asked-name2 .result .count) (b .asked-name2 .last .1 .1 .1 .0)))
 
 returns-3 : tie.Need-returns-3
 returns-3 c = search needs
@@ -60,11 +72,15 @@ join-asked-spec =
     (tie.spec
     buffer-requires
     buffer-requires-2
-    slice-aggregate-asked
-    asked-requires
+    slice-aggregate-asked-name
+    slice-aggregate-asked-name-2
+    slice-aggregate-asked-name-3
+    asked-name-requires
     returns
-    slice-aggregate-asked-2
-    asked-requires-2
+    slice-aggregate-asked-name-4
+    slice-aggregate-asked-name-5
+    slice-aggregate-asked-name-6
+    asked-name-requires-2
     returns-2
     array-share-prefix-name
     slice-aggregate-join-files

@@ -1,26 +1,28 @@
 -- The loop's invariant: the entries left answer as all do.
-use Rattle.joining.proofs.CoversLaws.{first-covering}
-use Rattle.joining.proofs.Turns.{one-entry, no-entry}
-use Rattle.joining.specs.Joining.{covers, coveringFrom, entriesFrom}
+use Rattle.joining.proofs.CoversLaws.{last-covering}
+use Rattle.joining.proofs.Turns.{last-turn}
+use Rattle.joining.specs.Joining.{covers, coveringOf}
 use Rattle.plan.specs.Entry.{entryOf}
 use Rattle.plan.specs.declared.Entry.{Entry}
 use Prim.Native.Nat.{_≤_, _-_}
 use mathlib.Core.Bool.{true, false}
-use mathlib.Core.Path.{_≡_, ap, sym, _∙_}
-use native.Mathlib.Omega.{arith}
+use mathlib.Core.Path.{_≡_, refl, ap, sym, _∙_}
 use denote.Ref.{now}
 use borrow.Author.Needs.{needs}
 use Rattle.joining.proofs.covering.Statement.{statement}
 use Rattle.joining.proofs.covering.Tie as tie
 
 abbrev Inv-loop : tie.InvT-loop
-Inv-loop rows count e i₀ i = (i ≤ count) × (coveringFrom (entriesFrom rows i (count - i)) e i ≡ coveringFrom (entriesFrom rows 0 count) e 0)
+Inv-loop rows count e left₀ left = (left ≤ count) × (coveringOf rows e left ≡ coveringOf rows e count)
 
 abbrev μ-loop : tie.MeasureT-loop
-μ-loop rows count e i₀ i = count - i
+μ-loop rows count e left₀ left = left
 
 loop-holds : tie.Need-loop-holds Inv-loop μ-loop
-loop-holds c = let n = c .before .args .count in let e : n - 0 ≡ n = omega arith in (search needs, rw e)
+loop-holds c = (search needs, refl)
+
+sub-entry-at : tie.Need-sub-entry-at Inv-loop μ-loop
+sub-entry-at c = search needs
 
 entry-at-requires : tie.Need-entry-at-requires Inv-loop μ-loop
 entry-at-requires c κs = search needs
@@ -28,19 +30,16 @@ entry-at-requires c κs = search needs
 covers-requires : tie.Need-covers-requires Inv-loop μ-loop
 covers-requires c κs = search needs
 
-add-result : tie.Need-add-result Inv-loop μ-loop
-add-result c = search needs
-
 returns : tie.Need-returns Inv-loop μ-loop
 returns c =
     let h = c .before .before .before .before in
     let a = h .before .before .args in
-    let t : covers (entryOf (now (a .rows)) (h .loop .i)) (a .e) ≡ true =
+    let t : covers (entryOf (now (a .rows)) (h .loop .left - 1)) (a .e) ≡ true =
     sym (ap (λ (x : Entry). covers x (a .e)) (c .before .before .entry-at .ensures)) ∙ sym (c .before .covers .ensures .0) ∙ c .if1 .taken in
-    first-covering (now (a .rows)) (a .count) (a .e) _ (rw (one-entry (now (a .rows)) (h .loop .i) (a .count) (search needs), t) at (h .loop .inv .1))
+    last-covering (now (a .rows)) (a .count) (a .e) _ (rw (last-turn (now (a .rows)) (a .e) (h .loop .left) (search needs), t) at (h .loop .inv .1))
 
-add-i : tie.Need-add-i Inv-loop μ-loop
-add-i c = search needs
+sub-left : tie.Need-sub-left Inv-loop μ-loop
+sub-left c = search needs
 
 loop-less : tie.Need-loop-less Inv-loop μ-loop
 loop-less c = search needs
@@ -49,15 +48,16 @@ loop-again : tie.Need-loop-again Inv-loop μ-loop
 loop-again c =
     let h = c .before .before .before .before in
     let a = h .before .before .args in
-    let f : covers (entryOf (now (a .rows)) (h .loop .i)) (a .e) ≡ false =
+    let f : covers (entryOf (now (a .rows)) (h .loop .left - 1)) (a .e) ≡ false =
     sym (ap (λ (x : Entry). covers x (a .e)) (c .before .before .entry-at .ensures)) ∙ sym (c .before .covers .ensures .0) ∙ c .if1 .left in
-    (search needs, rw (one-entry (now (a .rows)) (h .loop .i) (a .count) (search needs), f) at (h .loop .inv .1))
+    (search needs, rw (last-turn (now (a .rows)) (a .e) (h .loop .left) (search needs), f) at (h .loop .inv .1))
 
 returns-2 : tie.Need-returns-2 Inv-loop μ-loop
 returns-2 c =
     let h = c .before in
     let a = h .before .before .args in
-    first-covering (now (a .rows)) (a .count) (a .e) _ (rw (no-entry (now (a .rows)) (h .loop .i) (a .count) (search needs)) at (h .loop .inv .1))
+    let z : h .loop .left ≡ 0 = search needs in
+    last-covering (now (a .rows)) (a .count) (a .e) _ (rw z at (h .loop .inv .1))
 
 pub covering-spec : {M : Type 1} → statement M
 covering-spec =
@@ -66,11 +66,11 @@ covering-spec =
     Inv-loop
     μ-loop
     loop-holds
+    sub-entry-at
     entry-at-requires
     covers-requires
-    add-result
     returns
-    add-i
+    sub-left
     loop-less
     loop-again
     returns-2)

@@ -76,7 +76,7 @@ returns-3 c =
     let f = g .before .before .before in
     let none = f .before .before .before .before .before in
     let a = none .before .args in
-    promised (a .first) (a .second) _ (c .answer3 .ensures ∙ ap (answerOf 17) (none .empty .ensures) ∙ too-many (a .first) (a .second) (sound-first f) (sound-second g) _ (k .keep .ensures) (c .before .if3 .taken))
+    promised (a .first) (a .second) _ (c .answer3 .ensures ∙ ap (answerOf 17) (none .empty .ensures) ∙ too-many (a .first) (a .second) (sound-first f) (sound-second g) _ (k .keep .ensures) (search needs))
 
 append-requires : tie.Need-append-requires
 append-requires c κs = search needs
@@ -88,7 +88,7 @@ returns-4 c =
     let g = k .before .before .before in
     let f = g .before .before .before in
     let a = f .before .before .before .before .before .before .args in
-    promised (a .first) (a .second) _ (joins (a .first) (a .second) (sound-first f) (sound-second g) _ (k .keep .ensures) (t .if3 .left) _ (c .append .ensures))
+    promised (a .first) (a .second) _ (joins (a .first) (a .second) (sound-first f) (sound-second g) _ (k .keep .ensures) (search needs) _ (c .append .ensures))
 
 pub join-spec : {M : Type 1} → statement M
 join-spec =

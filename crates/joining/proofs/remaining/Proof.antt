@@ -1,7 +1,7 @@
 -- The loop's invariant: those counted, and those kept of the entries left, are as many as are kept of all.
 use Rattle.joining.proofs.Turns.{one-entry, no-entry}
 use Rattle.joining.proofs.Words.{kept-remain}
-use Rattle.joining.proofs.CoveringLaws.{not-covered, covered}
+use Rattle.joining.proofs.CoversLaws.{not-covered, covered}
 use Rattle.joining.specs.Joining.{entriesFrom, entriesOf, coveringOf, kept}
 use Rattle.plan.specs.declared.Entry.{Entry}
 use Rattle.plan.specs.Entry.{entryOf}
@@ -50,15 +50,14 @@ loop-again : tie.Need-loop-again Inv-loop μ-loop
 loop-again c =
     let h = c .before .before .before .before .before .before .before in
     let a = h .before .before .before .args in
-    let es = entriesFrom (a .second .rows) 0 (a .second .count) in
     let e = entryOf (a .first .rows) (h .loop .i) in
     let one = one-entry (a .first .rows) (h .loop .i) (a .first .count) (search needs) in
-    let same : c .before .covering .result ≡ coveringOf es e =
-    c .before .covering .ensures .0 ∙ ap (λ (x : Entry). coveringOf es x) (c .before .before .before .entry-at .ensures) in (
+    let same : c .before .covering .result ≡ coveringOf (a .second .rows) e (a .second .count) =
+    c .before .covering .ensures .0 ∙ ap (λ (x : Entry). coveringOf (a .second .rows) x (a .second .count)) (c .before .before .before .entry-at .ensures) in (
       search needs,
       ⊎-elim
-          (λ w. let left = (rw (one, not-covered es e 0 (sym same ∙ w .0 .taken)) at (h .loop .inv .1 .1)) in rw (w .1) (omega (arith, h .loop .inv .1 .0), omega arith))
-          (λ w. let left = (rw (one, covered es e 0 (λ z. w .0 .left (same ∙ z))) at (h .loop .inv .1 .1)) in rw (w .1) (omega (arith, h .loop .inv .1 .0), left))
+          (λ w. let left = (rw (one, not-covered (a .second .rows) e (a .second .count) (sym same ∙ w .0 .taken)) at (h .loop .inv .1 .1)) in rw (w .1) (omega (arith, h .loop .inv .1 .0), omega arith))
+          (λ w. let left = (rw (one, covered (a .second .rows) e (a .second .count) (λ z. w .0 .left (same ∙ z))) at (h .loop .inv .1 .1)) in rw (w .1) (omega (arith, h .loop .inv .1 .0), left))
           (c .if2 .came),
     )
 

@@ -49,9 +49,9 @@ pub fn covers(of_second: &Entry, of_first: &Entry) -> bool {
     begins(of_first).is_subset(&begins(of_second))
 }
 
-/// The entries of the first list that are dropped, each with the first entry of the second list that covers it. Both are places from 1.
+/// The entries of the first list that are dropped, each with the last entry of the second list that covers it. Both are places from 1.
 pub fn dropped(first: &[Entry], second: &[Entry]) -> BTreeMap<usize, usize> {
-    let covering = |entry: &Entry| second.iter().position(|by| covers(by, entry));
+    let covering = |entry: &Entry| second.iter().rposition(|by| covers(by, entry));
     (1..).zip(first).filter_map(|(place, entry)| Some((place, covering(entry)? + 1))).collect()
 }
 

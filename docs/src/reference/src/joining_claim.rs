@@ -30,11 +30,11 @@ fn is_dropped(entry: &Entry, second: &[Entry]) -> bool {
     second.iter().any(|by| by[1] == entry[1] && by[0] | entry[0] == by[0])
 }
 
-/// Each place of the first that is dropped, and none besides, with that of the second's first entry which does it alone.
+/// Each place of the first that is dropped, and none besides, with that of the second's last entry which does it alone.
 pub fn hold_dropped(first: &[Entry], second: &[Entry], dropped: &BTreeMap<usize, usize>) {
     for (place, entry) in (1..).zip(first) {
-        // up to the first that does it, how many of the second it takes
-        let by = (1..=second.len()).find(|many| is_dropped(entry, &second[..*many]));
+        // the farthest place from which on one of the second does it
+        let by = (1..=second.len()).rev().find(|from| is_dropped(entry, &second[from - 1..]));
         assert_eq!(dropped.get(&place).copied(), by, "what covers entry {place} of the first list");
     }
 }

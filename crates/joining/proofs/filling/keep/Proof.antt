@@ -1,6 +1,6 @@
 -- The loop's invariant: with the entries left that are kept behind it, the list come to is the whole.
 use Rattle.joining.proofs.Turns.{one-entry, no-entry, one-more-entry}
-use Rattle.joining.proofs.CoveringLaws.{not-covered, covered}
+use Rattle.joining.proofs.CoversLaws.{not-covered, covered}
 use Rattle.joining.proofs.FillingLaws.{with-all, entries-length, kept-length}
 use Rattle.joining.specs.Joining.{entriesFrom, coveringOf, kept, listOf}
 use Rattle.joining.specs.Filling.{withEntry, withAll}
@@ -52,16 +52,15 @@ loop-again : tie.Need-loop-again Inv-loop μ-loop
 loop-again c =
     let h = c .before .before .before .before in
     let a = h .before .before .before .before .args in
-    let es = entriesFrom (now (a .second)) 0 (a .others) in
     let e = entryOf (now (a .rows)) (h .loop .i) in
     let one = one-entry (now (a .rows)) (h .loop .i) (a .count) (search needs) in
-    let same : c .before .covering .result ≡ coveringOf es e =
-    c .before .covering .ensures .0 ∙ ap (λ (x : Entry). coveringOf es x) (c .before .before .entry-at .ensures) in (
+    let same : c .before .covering .result ≡ coveringOf (now (a .second)) e (a .others) =
+    c .before .covering .ensures .0 ∙ ap (λ (x : Entry). coveringOf (now (a .second)) x (a .others)) (c .before .before .entry-at .ensures) in (
       search needs,
       ⊎-elim
           (λ w. let l = w .2 ∙ w .1 .ensures ∙ ap (λ (x : Entry). withEntry (h .loop .list) x) (c .before .before .entry-at .ensures) in
-          (rw (l, one-more-entry (h .loop .list) e) (omega (arith, h .loop .inv .1 .0)), rw l (rw (one, not-covered es e 0 (sym same ∙ w .0 .taken)) at (h .loop .inv .1 .1))))
-          (λ w. rw (w .1) (omega (arith, h .loop .inv .1 .0), rw (one, covered es e 0 (λ z. w .0 .left (same ∙ z))) at (h .loop .inv .1 .1)))
+          (rw (l, one-more-entry (h .loop .list) e) (omega (arith, h .loop .inv .1 .0)), rw l (rw (one, not-covered (now (a .second)) e (a .others) (sym same ∙ w .0 .taken)) at (h .loop .inv .1 .1))))
+          (λ w. rw (w .1) (omega (arith, h .loop .inv .1 .0), rw (one, covered (now (a .second)) e (a .others) (λ z. w .0 .left (same ∙ z))) at (h .loop .inv .1 .1)))
           (c .if1 .came),
     )
 
