@@ -25,7 +25,7 @@ pub record SameTick (a b : Ticked) : Type 0 where
 pub record SameTicks (first second list : PlanList) : Type 0 where
   -- The list refuses no tick that the site took with its own plan, and lets none pass that the site refused.
   pub refusals : (x : Site) (s : State) (i : Input) → spoiltSite x ≡ false → tickOf (withList x list) s i .refusal ≡ tickOf x s i .refusal
-  -- An accepted tick gives what the rules give with the two laid end to end. (A plan of up to 32 entries is one that no file gives, and the
-  -- check for 14 would refuse it: so this is the tick behind the checks.)
+  -- An accepted tick gives what the rules give with the two laid end to end. A plan of more than 16 entries is one that no file gives, and
+  -- the check for 14 would refuse it: so the second tick is the one behind the checks.
   pub accepted : (x : Site) (s : State) (i : Input) → tickOf (withList x list) s i .refusal ≡ 0
       → SameTick (tickOf (withList x list) s i) (acceptedTick (withPlan x (endToEnd first second) (bothCounts first second)) s i)
