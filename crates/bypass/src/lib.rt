@@ -1,5 +1,7 @@
 // The bus bypass: what is kept of it, whether it begins, goes on or ends at a tick, how the lanes'
 // greens end meanwhile, and when the priority lane is released.
+#![tactic(auto)]
+
 mod at_lanes;
 
 ghost use Rattle.std.specs.Prelude.{◌≡◌};
@@ -11,7 +13,7 @@ use inputs::CALLED;
 use timings::Timings;
 
 // What is kept of a bypass.
-#[derive(Drop)]
+#[derive(Clone, Copy)]
 pub struct Bypass {
     // one waits or runs
     pub kept: bool,
@@ -22,7 +24,7 @@ pub struct Bypass {
 }
 
 // What the bypass does: none is kept; its lane is not green yet; its lane is green.
-#[derive(Drop)]
+#[derive(Clone, Copy)]
 pub enum Doing {
     None,
     Waits,

@@ -4,7 +4,7 @@ ghost use Rattle.calendar.specs.Clock.{clock_bad};
 
 use crate::day::Date;
 
-#[derive(Drop)]
+#[derive(Clone, Copy)]
 pub struct Clock {
     pub date: Date,
     // tenth of the day

@@ -5,7 +5,7 @@ ghost use Rattle.calendar.specs.Days.{in_month, yesterday_of};
 
 use numbers::Range;
 
-#[derive(Drop)]
+#[derive(Clone, Copy)]
 pub struct Date {
     pub year: u16,
     pub month: u16,
@@ -13,7 +13,7 @@ pub struct Date {
 }
 
 // A day in its month.
-#[derive(Drop)]
+#[derive(Clone, Copy)]
 pub struct Day {
     pub month: u16,
     pub day: u16,

@@ -1,4 +1,6 @@
 // The day type of a date: its weekday, or Holiday.
+#![tactic(auto)]
+
 mod clock;
 mod day;
 
@@ -33,7 +35,7 @@ const SUNDAY: u16 = 0;
 const FINAL_WEEK: u16 = 5;
 
 // One holiday of the site file.
-#[derive(Drop)]
+#[derive(Clone, Copy)]
 struct Row {
     // 1 fixed, 2 floating, 3 the day after a floating one
     kind: u16,

@@ -1,5 +1,7 @@
 // Checks the calendar on every day from 1 January 2000 to 31 December 2099 against a walk from day
 // to day, and prints how many answers of each sort were compared, and how many were Holiday.
+#![tactic(auto)]
+
 mod tally;
 mod walk;
 
@@ -20,7 +22,7 @@ const LIST: [u16; 60] = [
 ];
 
 // Where the walk stands before a day.
-#[derive(Drop)]
+#[derive(Clone, Copy)]
 struct Stand {
     weekday: u16,
     yesterday: Place,

@@ -3,13 +3,13 @@ use calendar::Date;
 use libc::STDOUT_FILENO;
 
 // Day types, and how many of them were Holiday.
-#[derive(Drop)]
+#[derive(Clone, Copy)]
 pub struct Answers {
     pub all: u64,
     pub holidays: u64,
 }
 
-#[derive(Drop)]
+#[derive(Clone, Copy)]
 pub struct Tally {
     // answers to whether there is such a date
     pub dates: u64,

@@ -5,7 +5,7 @@
 pub const HOLIDAY: u16 = 7;
 
 // A day as the walk came by it.
-#[derive(Drop)]
+#[derive(Clone, Copy)]
 pub struct Place {
     pub year: u16,
     pub month: u16,
@@ -19,7 +19,7 @@ pub struct Place {
 }
 
 // A holiday row.
-#[derive(Drop)]
+#[derive(Clone, Copy)]
 pub struct Row {
     pub kind: u16,
     pub month: u16,
@@ -46,7 +46,7 @@ pub fn month_days(month: u16, leap: bool) -> u16 {
 }
 
 // How often each weekday came by.
-#[derive(Drop)]
+#[derive(Clone, Copy)]
 pub struct Weekdays {
     pub times: [u16; 7],
 }

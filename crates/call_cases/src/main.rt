@@ -1,5 +1,7 @@
 // Reads cases from standard input, each behind its length in two bytes: a site file, and operations
 // on a controller at that site. Prints of each what its calls answer, and the states.
+#![tactic(auto)]
+
 mod input;
 mod print;
 mod run;

@@ -173,7 +173,7 @@ pub fn state(s: State) {
 // Ticks.
 
 // A tick's line behind its number: the text, 0 behind its end, and how many bytes it has.
-#[derive(Drop)]
+#[derive(Clone, Copy)]
 pub struct Line {
     text: [u8; 128],
     count: usize,

@@ -7,7 +7,7 @@ use site::Site;
 use state::State;
 use tick::{Input, Ticked};
 
-#[derive(Drop)]
+#[derive(Clone, Copy)]
 struct Run {
     // the record that the site file gave, and the present one
     given: Site,

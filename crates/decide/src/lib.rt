@@ -1,4 +1,6 @@
 // What is decided, asked for: by whoever wants to know, at a state as it stands.
+#![tactic(auto)]
+
 ghost use Rattle.std.specs.Prelude.{◌≡◌};
 ghost use Rattle.calendar.specs.Named.{Typed};
 ghost use Rattle.wanted.specs.Decision.{EntryInForce, command_in_force};
@@ -12,7 +14,7 @@ use state::State;
 use wanted::Decision;
 
 // The refusal, or 0; what is decided.
-#[derive(Drop)]
+#[derive(Clone, Copy)]
 pub struct Decided {
     pub refusal: u8,
     pub decision: Decision,

@@ -1,5 +1,7 @@
 // The polling desk of the centre: it polls cabinets 0 to 31 over one line, one to a tick. Each call takes
 // any desk and any number.
+#![tactic(auto)]
+
 ghost use Rattle.std.specs.Prelude.{◌≡◌, ◌<◌, ◌≤◌, ◌+◌, length};
 ghost use Rattle.turns.specs.Turn.{next_of, first_after};
 ghost use Rattle.desk.specs.declared.Changed.{Changed};
@@ -26,7 +28,7 @@ const MOST_TRIES: u8 = 3;
 
 // Who is enrolled; the cabinet polled by the last accepted tick, and how often running it has been, 0
 // where nobody was. A caller hands each call the desk that the call before gave.
-#[derive(Drop)]
+#[derive(Clone, Copy)]
 pub struct Desk {
     pub enrolled: [bool; 32],
     pub turn: u8,
@@ -34,21 +36,21 @@ pub struct Desk {
 }
 
 // Whom a tick polls.
-#[derive(Drop)]
+#[derive(Clone, Copy)]
 pub enum Polled {
     Nobody,
     Cabinet(u8),
 }
 
 // What enrolling and removing give: the refusal, or 0, and the desk.
-#[derive(Drop)]
+#[derive(Clone, Copy)]
 pub struct Changed {
     pub refusal: u8,
     pub desk: Desk,
 }
 
 // What a tick gives: the refusal, or 0, the desk, and whom to poll now.
-#[derive(Drop)]
+#[derive(Clone, Copy)]
 pub struct DeskTicked {
     pub refusal: u8,
     pub desk: Desk,

@@ -3,6 +3,8 @@
 // high ones first; the turn; the tries. 2 enrols, 3 removes and 4 is a tick: four numbers are the cabinet or
 // the answer, the highest first. One desk goes through all cases. Prints of each what it answers, and the
 // desk after it: turn, tries and who is enrolled.
+#![tactic(auto)]
+
 use desk::{Changed, Desk, DeskTicked, Polled};
 
 const BYTE: u16 = 256;
@@ -125,7 +127,7 @@ fn answer(desk: Desk, case: &[u8]) -> Desk {
 }
 
 // The desk, and whether there was one more case.
-#[derive(Drop)]
+#[derive(Clone, Copy)]
 struct Next {
     desk: Desk,
     more: bool,

@@ -1,4 +1,6 @@
 // A plan entry in words, as the timetable says it: its days, start, mode, rate and table.
+#![tactic(auto)]
+
 ghost use Rattle.text.specs.Put.{Put};
 ghost use Rattle.entry_text.specs.EntryText.{mode_name, clock_text, timed_text, day_text, days_text, entry_text};
 

@@ -1,8 +1,10 @@
 // Reading a file that may be absent.
+#![tactic(auto)]
+
 ghost use Rattle.std.specs.Prelude.{◌+◌, ◌≤◌, length};
 
 // How many bytes were read; `failed` says that a file could not be read, or is absent and was named.
-#[derive(Drop)]
+#[derive(Clone, Copy)]
 pub struct Input {
     pub failed: bool,
     pub count: usize,

@@ -11,7 +11,7 @@ use lanes::{GREEN, RED, YELLOW};
 
 // Each lane's colour, 0 dark, 1 red, 2 yellow, 3 green; its lower green and the warning sign, 0 off,
 // 1 on.
-#[derive(Drop)]
+#[derive(Clone, Copy)]
 pub struct Indications {
     pub colours: [u16; 4],
     pub lower: [u16; 4],

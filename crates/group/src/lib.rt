@@ -1,4 +1,6 @@
 // One group of lanes: its interval, its lanes, and the lamps.
+#![tactic(auto)]
+
 mod indication;
 mod interval;
 mod preemption;
@@ -18,7 +20,7 @@ use timings::Timings;
 use wanted::Wish;
 
 // The group's interval with its age, its lanes, and its bus bypass.
-#[derive(Drop)]
+#[derive(Clone, Copy)]
 pub struct Group {
     pub interval: u16,
     pub age: u16,
@@ -27,7 +29,7 @@ pub struct Group {
 }
 
 // The group after a tick, and the lane that it released, from 1, or 0.
-#[derive(Drop)]
+#[derive(Clone, Copy)]
 pub struct Moved {
     pub group: Group,
     pub released: u16,

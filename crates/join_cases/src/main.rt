@@ -2,6 +2,8 @@
 // count and 80 numbers; a year; how many holidays, and 80 numbers of their rows. Prints what joining answers,
 // and both lists after it; where it is accepted, how many clocks of that year were asked for the entry in
 // force, and a digest of these entries.
+#![tactic(auto)]
+
 mod year;
 
 ghost use Rattle.std.specs.Prelude.{◌≤◌};

@@ -8,7 +8,7 @@ use plan::Entry;
 const LAST_MINUTE: u16 = 1439;
 
 // How many clocks were asked, and a digest of the entries in force there.
-#[derive(Drop)]
+#[derive(Clone, Copy)]
 pub struct Asked {
     pub checks: u32,
     pub digest: u32,

@@ -1,5 +1,7 @@
 // Joins the plan of a second site file, as that of roadworks, to the first's, and writes the first with the
 // joined plan.
+#![tactic(auto)]
+
 mod joined;
 mod report;
 

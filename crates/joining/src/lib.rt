@@ -1,4 +1,6 @@
 // Joining two plan lists, as a standing list and a roadworks list.
+#![tactic(auto)]
+
 mod filling;
 
 ghost use Rattle.std.specs.Prelude.{◌≡◌, true, false, ℕ, length};
@@ -12,14 +14,14 @@ use plan::Entry;
 
 // A plan's rows of 5 and how many there are, as a site record has them. Any numbers are taken: 14 is the answer to
 // those that no file could give.
-#[derive(Drop)]
+#[derive(Clone, Copy)]
 pub struct PlanList {
     pub rows: [u16; ranges::MOST_ENTRY_NUMBERS],
     pub count: u16,
 }
 
 // What joining gives: the refusal, or 0; the list, empty where refused.
-#[derive(Drop)]
+#[derive(Clone, Copy)]
 pub struct Joined {
     pub refusal: u8,
     pub list: PlanList,

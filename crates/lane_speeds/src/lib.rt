@@ -1,4 +1,6 @@
 // What is kept of the mainline lanes' speeds, in km/h, and a lane's reading.
+#![tactic(auto)]
+
 mod range;
 mod reading;
 
@@ -10,7 +12,7 @@ pub use range::spoilt;
 pub use reading::{Reading, read, speed_in};
 
 // A mainline lane's latest and slowest speed of a period, 0 until a vehicle is timed.
-#[derive(Drop)]
+#[derive(Clone, Copy)]
 pub struct Speeds {
     pub latest: f64,
     pub slowest: f64,
@@ -18,7 +20,7 @@ pub struct Speeds {
 
 // Per mainline lane: the speeds of the open period and of the last completed one, and the last measured speed of the periods before
 // that one, 0 for none.
-#[derive(Drop)]
+#[derive(Clone, Copy)]
 pub struct KeptSpeeds {
     pub current: [Speeds; 6],
     pub last: [Speeds; 6],

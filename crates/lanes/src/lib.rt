@@ -1,4 +1,6 @@
 // The lanes of a group in metering: colours, ages, counters, from one tick to the next.
+#![tactic(auto)]
+
 mod interval;
 
 ghost use Rattle.std.specs.Prelude.{◌≡◌, get_or};
@@ -22,7 +24,7 @@ pub const MOST_PASSAGES: u16 = 3;
 
 // One lane: its colour and that colour's age, the ticks since its last green began, and the passages
 // of that green.
-#[derive(Drop)]
+#[derive(Clone, Copy)]
 pub struct Lane {
     pub colour: u16,
     pub age: u16,
@@ -31,7 +33,7 @@ pub struct Lane {
 }
 
 // Four lanes, the ticks since the group's last green began, and the lane released last, from 1.
-#[derive(Drop)]
+#[derive(Clone, Copy)]
 pub struct Lanes {
     pub colours: [u16; 4],
     pub ages: [u16; 4],
@@ -43,7 +45,7 @@ pub struct Lanes {
 
 // How a lane's green ends at a tick: by the ordinary rule, as soon as it has had its minimum, not at
 // all, or at once.
-#[derive(Drop)]
+#[derive(Clone, Copy)]
 pub enum Ending {
     Ordinary,
     Cut,
@@ -52,7 +54,7 @@ pub enum Ending {
 }
 
 // How the lanes' greens end at a tick: that of one lane, from 1, and those of the others.
-#[derive(Drop)]
+#[derive(Clone, Copy)]
 pub struct Endings {
     pub lane: u16,
     pub own: Ending,

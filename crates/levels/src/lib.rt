@@ -1,4 +1,6 @@
 // What the last completed period measured, and the level that decides.
+#![tactic(auto)]
+
 mod measure;
 
 ghost use Rattle.std.specs.Prelude.{◌≡◌};
@@ -7,7 +9,7 @@ ghost use Rattle.levels.specs.Levels.{level_of, reaches_of, is_slow, is_met, dec
 pub use measure::{Measured, Measures, Totals, measured_on};
 
 // One level of a level table.
-#[derive(Drop)]
+#[derive(Clone, Copy)]
 pub struct Level {
     pub table: u16,
     // per lane an hour, at or above

@@ -12,7 +12,7 @@ const PERIODS_IN_AN_HOUR: u64 = 120;
 const TENTH_OF_A_PERCENT: u64 = 30;
 
 // Sums over the good lanes.
-#[derive(Drop)]
+#[derive(Clone, Copy)]
 pub struct Totals {
     pub lanes: u16,
     pub vehicles: u64,
@@ -23,7 +23,7 @@ pub struct Totals {
     pub millis: u64,
 }
 
-#[derive(Drop)]
+#[derive(Clone, Copy)]
 pub struct Measures {
     // vehicles an hour per lane
     pub flow: u64,
@@ -35,7 +35,7 @@ pub struct Measures {
 }
 
 // What there is to measure by.
-#[derive(Drop)]
+#[derive(Clone, Copy)]
 pub enum Measured {
     NoGoodLane,
     Over(Measures),

@@ -1,4 +1,6 @@
 // The text that the timetable program prints of a site file.
+#![tactic(auto)]
+
 mod line;
 
 ghost use Rattle.std.specs.Prelude.{◌≡◌, ◌≤◌, ◌++◌, length, drop};

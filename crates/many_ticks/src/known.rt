@@ -14,7 +14,7 @@ use site::Site;
 use tick::{DecidedTick, Input};
 
 // What was decided, where it is kept: on this date, in this minute of it and under these commands, until a period is completed.
-#[derive(Drop)]
+#[derive(Clone, Copy)]
 pub struct Known {
     pub kept: bool,
     pub date: Date,

@@ -1,4 +1,6 @@
 // Many ticks in one call: tick records, and the indications of each accepted tick behind those of the tick before.
+#![tactic(auto)]
+
 mod known;
 
 ghost use Rattle.std.specs.Prelude.{◌≡◌, cond, false, ℕ, ◌+◌, ◌*◌, ◌-◌, ◌≤◌, min, length, get_or};
@@ -23,7 +25,7 @@ use tick::{DecidedTick, Input};
 use timings::Timings;
 
 // What a call gives: the refusal, or 0 at the end; how many ticks were accepted; the state after them.
-#[derive(Drop)]
+#[derive(Clone, Copy)]
 pub struct Ran {
     pub refusal: u8,
     pub accepted: usize,
@@ -31,7 +33,7 @@ pub struct Ran {
 }
 
 // A record's refusal, or 0 and its tick.
-#[derive(Drop)]
+#[derive(Clone, Copy)]
 struct Checked {
     refusal: u8,
     input: Input,

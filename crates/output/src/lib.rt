@@ -1,9 +1,11 @@
 // The answer of a call that writes into a caller's buffer.
+#![tactic(auto)]
+
 ghost use Rattle.std.specs.Prelude.{◌≡◌};
 ghost use Rattle.output.specs.Output.{refused_write, accepted_write};
 
 // A refusal of document 01, or 0, and how many bytes were written.
-#[derive(Drop)]
+#[derive(Clone, Copy)]
 pub struct Written {
     pub refusal: u8,
     pub count: usize,

@@ -1,6 +1,8 @@
 // What the programs print alike: a day's name, a number and a time behind a blank, the line of
 // what is refused and of a refused site file, how many arguments are wanted, and of what is wrong its
 // trade word and the range that was left.
+#![tactic(auto)]
+
 mod wrong;
 
 ghost use Rattle.text.specs.Put.{Put};

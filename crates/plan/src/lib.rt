@@ -1,4 +1,6 @@
 // The plan's entries.
+#![tactic(auto)]
+
 mod today;
 
 ghost use Rattle.std.specs.Prelude.{◌≡◌};
@@ -8,7 +10,7 @@ ghost use Rattle.plan.specs.InForce.{applies, takes_over, in_force_of, InForce};
 pub use today::{DayAndEntry, day_and_entry};
 
 // One time-of-day entry.
-#[derive(Drop)]
+#[derive(Clone, Copy)]
 pub struct Entry {
     // bit 0 Sunday to bit 6 Saturday, bit 7 Holiday
     pub days: u16,

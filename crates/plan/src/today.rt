@@ -11,7 +11,7 @@ use calendar::Date;
 
 // The day type, 0 Sunday to 6 Saturday, 7 Holiday and 8 for no day; the place from 1 of the entry in force,
 // 0 for none.
-#[derive(Drop)]
+#[derive(Clone, Copy)]
 pub struct DayAndEntry {
     pub day: u16,
     pub entry: u16,

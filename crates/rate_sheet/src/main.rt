@@ -1,5 +1,7 @@
 // Prints the cabinet's rate sheet: for each metering rate the cycle in seconds at 1, 2 and 3 vehicles
 // per green, as a tick gives it that is asked for that rate.
+#![tactic(auto)]
+
 ghost use Rattle.std.specs.Prelude.{◌≡◌, ◌≤◌};
 ghost use Rattle.text.specs.Put.{Put};
 ghost use Rattle.release.specs.Cycle.{cycle_ticks};

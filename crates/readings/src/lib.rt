@@ -1,4 +1,6 @@
 // The mainline lanes' readings and speeds of the last completed period, for the control centre.
+#![tactic(auto)]
+
 ghost use Rattle.std.specs.Prelude.{◌≡◌, ◌<◌};
 ghost use Rattle.readings.specs.Readings.{no_reading, lane_reading_of, readings_of, refused_readings, read_of, lane_in, MeasuredNear};
 ghost use Rattle.readings.specs.SincePowerUp.{SincePowerUp};
@@ -9,14 +11,14 @@ use site::Site;
 use state::State;
 
 // A mainline lane's reading, and its latest and slowest speed of the period.
-#[derive(Drop)]
+#[derive(Clone, Copy)]
 pub struct LaneReading {
     pub reading: Reading,
     pub speeds: Speeds,
 }
 
 // The refusal, or 0, and the lanes; absent and 0 beyond the site's, and all of them where it is refused.
-#[derive(Drop)]
+#[derive(Clone, Copy)]
 pub struct Readings {
     pub refusal: u8,
     pub lanes: [LaneReading; 6],

@@ -1,4 +1,6 @@
 // The mainline lanes' readings as a line of text.
+#![tactic(auto)]
+
 ghost use Rattle.text.specs.Put.{Put};
 ghost use Rattle.readings_text.specs.Line.{speed_text, case_text, lane_text, lanes_text, speeds_line};
 

@@ -1,10 +1,12 @@
 // What the programs that read tick records do alike: whole records from a stream in a buffer of fixed size, and the line at the end.
+#![tactic(auto)]
+
 ghost use Rattle.std.specs.Prelude.{◌≡◌, cond, ◌-◌, ◌%◌, ◌≤◌, length, take, drop};
 
 use libc::{STDERR_FILENO, STDIN_FILENO};
 
 // How many bytes stand in the front of a buffer, whether they are the last, and whether they could not be read.
-#[derive(Drop)]
+#[derive(Clone, Copy)]
 pub struct Front {
     pub count: usize,
     pub last: bool,

@@ -1,4 +1,6 @@
 // Which lane a tick releases, and what its release does. Lanes are numbered from 1, and 0 is none.
+#![tactic(auto)]
+
 mod cycle;
 
 ghost use Rattle.std.specs.Prelude.{◌≡◌, ℕ, ◌≤◌};

@@ -1,7 +1,7 @@
 // What searches found, summed up in a line.
 use libc::STDOUT_FILENO;
 
-#[derive(Drop)]
+#[derive(Clone, Copy)]
 pub struct Findings {
     // how often none was found, and each of four lanes
     pub counts: [u64; 5],

@@ -3,6 +3,8 @@
 // and fractional offset a tick before the offset is up, then and long after; with 1, 2 and 3 vehicles per
 // green from one cycle to the next. Prints for each cycle how often none and each lane was found, and a
 // digest of the order; then the same of what a bus bypass finds.
+#![tactic(auto)]
+
 mod findings;
 mod standing;
 
@@ -18,7 +20,7 @@ const LAST_CYCLE: u16 = 720;
 const MOST_LANES: u16 = 4;
 
 // A cycle, a group's timings in both service modes, and after how many ticks its offset is up.
-#[derive(Drop)]
+#[derive(Clone, Copy)]
 struct Ways {
     cycle: u16,
     exclusion: Timings,

@@ -1,4 +1,6 @@
 // Replays the ticks of standard input at a site.
+#![tactic(auto)]
+
 use libc::{STDERR_FILENO, STDIN_FILENO};
 
 fn main() {

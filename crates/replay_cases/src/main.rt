@@ -1,6 +1,8 @@
 // Replays stored ticks at stored site files: a line of standard input names a site file and a file of
 // ticks. Each run stands behind a line with their names. What the program says on standard error
 // follows on standard output.
+#![tactic(auto)]
+
 ghost use Rattle.std.specs.Prelude.{◌≤◌, length};
 
 use libc::{STDIN_FILENO, STDOUT_FILENO};

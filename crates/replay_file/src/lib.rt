@@ -1,4 +1,6 @@
 // The replay program over a site file of any name and ticks from any file.
+#![tactic(auto)]
+
 mod ticks;
 
 fn print_refusal(refusal: u8, place: usize) -> bool {

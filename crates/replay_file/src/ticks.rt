@@ -6,7 +6,7 @@ use replay_lines::Run;
 use site::Site;
 
 // The run, and whether more is to be read.
-#[derive(Drop)]
+#[derive(Clone, Copy)]
 struct Going {
     run: Run,
     on: bool,

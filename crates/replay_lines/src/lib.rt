@@ -1,4 +1,6 @@
 // A replay: what the bytes of its ticks, part by part, add to its output.
+#![tactic(auto)]
+
 mod answer;
 mod no_tick;
 mod run;

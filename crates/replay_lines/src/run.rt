@@ -12,14 +12,14 @@ use tick::{Input, Ticked};
 use tick_line::{Scan, Verdict};
 
 // The first tick that was refused: its line, 0 where there is none, the refusal and the input.
-#[derive(Drop)]
+#[derive(Clone, Copy)]
 pub struct Refused {
     pub line: u64,
     pub refusal: u8,
     pub input: Input,
 }
 
-#[derive(Drop)]
+#[derive(Clone, Copy)]
 pub struct Run {
     pub state: State,
     // how many lines have ended
@@ -33,7 +33,7 @@ pub struct Run {
 }
 
 // A line that has ended: its number from 1, what was read of it, and what the tick gave.
-#[derive(Drop)]
+#[derive(Clone, Copy)]
 struct Line {
     number: u64,
     verdict: Verdict,
@@ -42,7 +42,7 @@ struct Line {
 }
 
 // The run behind the bytes that were taken, and how long the text is that they added.
-#[derive(Drop)]
+#[derive(Clone, Copy)]
 pub struct Taken {
     pub run: Run,
     pub bytes: usize,

@@ -1,2 +1,4 @@
 // Lists of calls, one after the other, and what happens in time. Definitions and laws alone; there is
 // no code here.
+#![tactic(auto)]
+

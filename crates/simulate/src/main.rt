@@ -1,4 +1,6 @@
 // Simulates the tick records of standard input at a site, from a power-up.
+#![tactic(auto)]
+
 fn main() {
     let mut name = io::buffer();
     let site = site_program::asked_site(

@@ -1,4 +1,6 @@
 // The simulator over a site file of any name and the tick records of standard input, by calls for many ticks or by single ones.
+#![tactic(auto)]
+
 mod single;
 
 ghost use Rattle.std.specs.Prelude.{◌≡◌, ◌≤◌, length};
@@ -9,7 +11,7 @@ use state::State;
 
 // The state, and how many ticks were accepted so far; the refusal, or 0; how many bytes of the output the ticks since the last read take;
 // how many bytes of the next record are held; whether more is to be read, and whether nothing has failed.
-#[derive(Drop)]
+#[derive(Clone, Copy)]
 pub struct Run {
     pub state: State,
     pub accepted: u64,

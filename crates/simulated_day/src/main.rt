@@ -2,6 +2,8 @@
 // input. Prints how many were accepted, the lanes released, the periods polled, and a checksum of
 // all that the driver and the control centre see; of a refused file why and where, and in words on
 // standard error. With an argument, the samples alone are made.
+#![tactic(auto)]
+
 mod random;
 
 use calendar::{Clock, Date};
@@ -17,7 +19,7 @@ const TICKS: u32 = 864000;
 const SEED: u32 = 1;
 
 // A day so far.
-#[derive(Drop)]
+#[derive(Clone, Copy)]
 struct Day {
     state: State,
     random: u32,

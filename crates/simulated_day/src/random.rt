@@ -2,7 +2,7 @@
 use inputs::{Mainline, Metered};
 
 // The samples of one tick, and the generator behind them.
-#[derive(Drop)]
+#[derive(Clone, Copy)]
 pub struct Drawn {
     pub random: u32,
     pub lanes: Metered,

@@ -1,4 +1,6 @@
 // Simulates the tick records of standard input at a site as simulate does, but by a call for each tick.
+#![tactic(auto)]
+
 fn main() {
     let mut name = io::buffer();
     let site = site_program::asked_site(

@@ -1,4 +1,6 @@
 // The site record, and the check for a record that no file could give.
+#![tactic(auto)]
+
 ghost use Rattle.std.specs.Prelude.{◌≡◌, ◌≤◌, length};
 ghost use Rattle.ranges.specs.Sections.{most_of};
 ghost use Rattle.ranges.specs.declared.Section.TheVariants.{Entries};
@@ -9,7 +11,7 @@ use ranges::Section;
 use timings::{Shape, Timings};
 
 // All of a site file. A section's rows stand one behind the other; those beyond its count are 0.
-#[derive(Drop)]
+#[derive(Clone, Copy)]
 pub struct Site {
     // 17 timings
     pub timings: [u16; ranges::MOST_TIMING_NUMBERS],
@@ -25,7 +27,7 @@ pub struct Site {
 }
 
 // What reading a file gives: the refusal, or 0; its place; the record, of zeros where refused.
-#[derive(Drop)]
+#[derive(Clone, Copy)]
 pub struct ReadSite {
     pub refusal: u8,
     pub place: usize,
@@ -33,7 +35,7 @@ pub struct ReadSite {
 }
 
 // What reading one section finds: its refusal and place, or its count and the number behind it.
-#[derive(Drop)]
+#[derive(Clone, Copy)]
 pub struct Found {
     pub refusal: u8,
     pub place: usize,

@@ -3,12 +3,14 @@
 // is rewritten byte for byte. Then come the answers of `write`, where it is accepted, and of
 // `print`: in a buffer with much room, in one that just holds what is written, and in one that is a
 // byte shorter.
+#![tactic(auto)]
+
 use libc::STDOUT_FILENO;
 use output::Written;
 use site::Site;
 
 // What a call answered, and whether it left every byte behind what it wrote as it was.
-#[derive(Drop)]
+#[derive(Clone, Copy)]
 struct Outcome {
     written: Written,
     kept: bool,

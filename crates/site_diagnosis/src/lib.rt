@@ -1,4 +1,6 @@
 // What is wrong with a site file, in words.
+#![tactic(auto)]
+
 mod names;
 mod wrong;
 

@@ -1,4 +1,6 @@
 // The site in the file that a program is asked for.
+#![tactic(auto)]
+
 ghost use Rattle.std.specs.Prelude.{◌≡◌, true, false};
 ghost use Rattle.site.specs.Record.{spoilt_site};
 
@@ -6,7 +8,7 @@ use libc::STDERR_FILENO;
 use site::Site;
 
 // A site, where its file could be read and was accepted.
-#[derive(Drop)]
+#[derive(Clone, Copy)]
 pub struct GivenSite {
     pub given: bool,
     pub site: Site,

@@ -2,7 +2,7 @@
 ghost use Rattle.std.specs.Prelude.{◌≡◌};
 ghost use Rattle.site_program.specs.Arguments.{asked_by_one, asked_by};
 
-#[derive(Drop)]
+#[derive(Clone, Copy)]
 pub enum Asked {
     // the site file of the default name
     Default,

@@ -1,5 +1,7 @@
 // What the programs do alike: their argument and their help, the site file that they are asked for,
 // their output and their errors.
+#![tactic(auto)]
+
 mod arguments;
 
 ghost use Rattle.std.specs.Prelude.{◌≡◌, ◌≤◌, length};
@@ -9,7 +11,7 @@ pub use arguments::{Asked, asked_by};
 use libc::{STDERR_FILENO, STDOUT_FILENO};
 
 // Whether a site file is to be read, whether the user named it, and how long its name is.
-#[derive(Drop)]
+#[derive(Clone, Copy)]
 pub struct AskedSite {
     pub given: bool,
     pub named: bool,

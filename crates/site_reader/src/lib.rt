@@ -1,4 +1,6 @@
 // Reading a site file.
+#![tactic(auto)]
+
 ghost use Rattle.std.specs.Prelude.{◌≡◌, false, List, ℕ, ◌≤◌, length, take};
 ghost use Rattle.numbers.specs.Words.{words};
 ghost use Rattle.ranges.specs.Sections.{most_of};

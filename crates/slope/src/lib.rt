@@ -1,11 +1,13 @@
 // The yellow of an approach speed and a grade.
+#![tactic(auto)]
+
 ghost use Rattle.std.specs.Prelude.{◌≡◌, true};
 ghost use Rattle.slope.specs.Slope.{is_from, speed_in, grade_in, divisor_of, ticks_of, refused_yellow, yellow_at};
 ghost use Rattle.slope.specs.Kinematic.{LeastEnough};
 ghost use Rattle.slope.specs.Claims.{InRange, Refuses, Fits, NeverGrows, NeverFalls};
 
 // The refusal, or 0, and the yellow in ticks, 0 where it is refused.
-#[derive(Drop)]
+#[derive(Clone, Copy)]
 pub struct Yellow {
     pub refusal: u8,
     pub ticks: u16,

@@ -1,4 +1,6 @@
 // Speeds from travel times over a pair of loops, as doubles.
+#![tactic(auto)]
+
 mod tenth;
 
 ghost use Rattle.std.specs.Prelude.{◌≡◌, false, ◌*◌, ◌≤◌};

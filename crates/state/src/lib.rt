@@ -1,4 +1,6 @@
 // The controller's state: its group, and what it has counted.
+#![tactic(auto)]
+
 ghost use Rattle.std.specs.Prelude.{◌≡◌};
 ghost use Rattle.state.specs.State.{state_spoilt, fresh_state, zero_state};
 
@@ -7,7 +9,7 @@ use lanes::Lanes;
 use period::Periods;
 use timings::Shape;
 
-#[derive(Drop)]
+#[derive(Clone, Copy)]
 pub struct State {
     pub group: Group,
     pub periods: Periods,

@@ -1,11 +1,13 @@
 // Test cases on standard input, each behind its length in two bytes.
+#![tactic(auto)]
+
 ghost use Rattle.std.specs.Prelude.{◌≤◌};
 ghost use Rattle.io.specs.Counts.{IsPrefixLen};
 
 use libc::STDIN_FILENO;
 
 // Whether there is one more case, and how many of its bytes stand at the front of the buffer.
-#[derive(Drop)]
+#[derive(Clone, Copy)]
 pub struct Case {
     pub more: bool,
     pub count: usize,

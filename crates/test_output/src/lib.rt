@@ -1,4 +1,6 @@
 // What the test programs print, and the buffers that they lend.
+#![tactic(auto)]
+
 ghost use Rattle.io.specs.Counts.{IsPrefixLen};
 
 use libc::STDOUT_FILENO;

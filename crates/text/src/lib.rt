@@ -1,5 +1,7 @@
 // Text into a buffer. Each call writes from a place on, as far as the buffer reaches, and gives
 // the place behind its text, so that on an empty buffer it only counts.
+#![tactic(auto)]
+
 ghost use Rattle.std.specs.Prelude.{◌≡◌, ◌∷◌, [], ◌+◌, min};
 ghost use Rattle.text.specs.Decimal.{decimal, signed, two_digits};
 ghost use Rattle.text.specs.Items.{item};

@@ -1,4 +1,6 @@
 // Power-up, and the tick: one call per tenth of a second.
+#![tactic(auto)]
+
 ghost use Rattle.std.specs.Prelude.{◌≡◌, ℕ, ◌≤◌, ◌<◌, false, get_or};
 ghost use Rattle.site.specs.Record.{spoilt_site};
 ghost use Rattle.site.specs.Named.{timings_of, shape_of};
@@ -30,7 +32,7 @@ use wanted::{Decision, Wish};
 
 // What a tick is given: the clock, the detectors' samples, the calls of the fire service and of a
 // bus, the technician's command and the control centre's.
-#[derive(Drop)]
+#[derive(Clone, Copy)]
 pub struct Input {
     pub clock: Clock,
     pub lanes: Metered,
@@ -43,7 +45,7 @@ pub struct Input {
 // What a tick gives: the refusal, or 0; the state and the lamps; what was decided, the cycle of a wish
 // to meter or 0, the lane released, from 1, or 0, and what the bus bypass does: of a refused tick
 // nothing, whatever is kept.
-#[derive(Drop)]
+#[derive(Clone, Copy)]
 pub struct Ticked {
     pub refusal: u8,
     pub state: State,
@@ -55,14 +57,14 @@ pub struct Ticked {
 }
 
 // What a tick decides, and the cycle of a wish to meter or 0.
-#[derive(Drop)]
+#[derive(Clone, Copy)]
 pub struct DecidedTick {
     pub decision: Decision,
     pub cycle: u16,
 }
 
 // What power-up gives: the refusal, or 0, and the state.
-#[derive(Drop)]
+#[derive(Clone, Copy)]
 pub struct PoweredUp {
     pub refusal: u8,
     pub state: State,

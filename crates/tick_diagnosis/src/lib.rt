@@ -1,4 +1,6 @@
 // Which number of a tick's input is out of range, in words.
+#![tactic(auto)]
+
 mod names;
 mod number;
 

@@ -11,7 +11,7 @@ use tick::Input;
 use timings::Shape;
 
 // Whose number it is; lanes from 0.
-#[derive(Drop)]
+#[derive(Clone, Copy)]
 pub enum Part {
     TheClock,
     MeteredLane(u16),
@@ -22,7 +22,7 @@ pub enum Part {
 }
 
 // A number in a column of its part, its range, both ends included, and whether it is out of range.
-#[derive(Drop)]
+#[derive(Clone, Copy)]
 pub struct Number {
     pub part: Part,
     pub column: usize,

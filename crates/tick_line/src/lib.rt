@@ -1,4 +1,6 @@
 // A tick's line: its bytes, in one part or several, and the tick that they give.
+#![tactic(auto)]
+
 mod reading;
 mod scan;
 

@@ -10,7 +10,7 @@ use tick::Input;
 
 // Whether a line is a tick, and if not, why: how many numbers it has and how many are wanted; or
 // which word is no number, above its most, or empty.
-#[derive(Drop)]
+#[derive(Clone, Copy)]
 pub enum Verdict {
     Tick,
     Count(u64, u64),
@@ -20,7 +20,7 @@ pub enum Verdict {
 }
 
 // The verdict, and the line's tick; zeros where it is none.
-#[derive(Drop)]
+#[derive(Clone, Copy)]
 pub struct ReadLine {
     pub verdict: Verdict,
     pub input: Input,

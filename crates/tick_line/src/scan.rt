@@ -17,7 +17,7 @@ const HALF: u64 = 65536;
 const MOST_COUNTED: u64 = 18446744073709551615;
 
 // Where a line's bytes so far end.
-#[derive(Drop)]
+#[derive(Clone, Copy)]
 pub enum Stage {
     // before a word: at the line's start, or one blank behind a number
     Between,
@@ -31,7 +31,7 @@ pub enum Stage {
     Empty,
 }
 
-#[derive(Drop)]
+#[derive(Clone, Copy)]
 pub struct Scan {
     pub stage: Stage,
     // whether the last byte was a carriage return, which may belong to the line's end

@@ -1,4 +1,6 @@
 // Document 02's tick record: a tick in two-byte numbers, in five sections each behind its count.
+#![tactic(auto)]
+
 ghost use Rattle.std.specs.Prelude.{◌≡◌, ◌+◌, ◌*◌, ◌≤◌, ◌<◌, length, get_or};
 ghost use Rattle.numbers.specs.Words.{words};
 ghost use Rattle.tick_row.specs.Row.{clock_of, of_lane, metered_of, mainline_of, calls_of, command_of};

@@ -1,4 +1,6 @@
 // A tick as one row of numbers: clock, metered lanes, mainline lanes, calls, commands.
+#![tactic(auto)]
+
 ghost use Rattle.std.specs.Prelude.{◌≡◌, ◌≤◌};
 ghost use Rattle.tick_row.specs.Row.{long_of, clock_of, of_lane, of_metered, metered_of, of_mainline, mainline_of, calls_of, command_of, mainline_at, calls_at, commands_at, input_of, row_size};
 

@@ -1,4 +1,6 @@
 // The lines that the replay program prints.
+#![tactic(auto)]
+
 mod decided;
 mod lamps;
 

@@ -1,4 +1,6 @@
 // Prints the timetable of a site file.
+#![tactic(auto)]
+
 use libc::STDERR_FILENO;
 
 fn main() {

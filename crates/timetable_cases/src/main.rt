@@ -1,5 +1,7 @@
 // Runs the timetable program on stored site files, each behind a line with its name. What it says
 // on standard error of a refused file follows on standard output.
+#![tactic(auto)]
+
 use libc::STDOUT_FILENO;
 
 fn show(name: &[u8]) {

@@ -1,5 +1,7 @@
 // A group's timings by name, in the site file's order; times in ticks unless said.
-#[derive(Drop)]
+#![tactic(auto)]
+
+#[derive(Clone, Copy)]
 pub struct Timings {
     // how many metered lanes
     pub lanes: u16,
@@ -32,7 +34,7 @@ pub struct Timings {
 
 // What a state must fit: how many metered and mainline lanes there are, and the lane of the bus
 // bypass, 0 for none.
-#[derive(Drop)]
+#[derive(Clone, Copy)]
 pub struct Shape {
     pub lanes: u16,
     pub mainline: u16,

@@ -1,4 +1,6 @@
 // What is wanted at a clock, under two commands, after the periods so far.
+#![tactic(auto)]
+
 mod wish;
 
 ghost use Rattle.std.specs.Prelude.{◌≡◌, ◌≤◌};
@@ -14,7 +16,7 @@ pub use wish::{Source, Wish};
 
 // The day type, 0 Sunday to 6 Saturday, 7 Holiday and 8 for no day; the places from 1 in the file of
 // the entry in force and of the level that decided, 0 for none; who rules, and the wish.
-#[derive(Drop)]
+#[derive(Clone, Copy)]
 pub struct Decision {
     pub day: u16,
     pub entry: u16,

@@ -7,7 +7,7 @@ use levels::Measured;
 use period::Periods;
 
 // What is wanted of the group.
-#[derive(Drop)]
+#[derive(Clone, Copy)]
 pub enum Wish {
     Dark,
     Green,
@@ -17,7 +17,7 @@ pub enum Wish {
 }
 
 // Who wishes it: the technician, the control centre, or the plan, also where no entry is in force.
-#[derive(Drop)]
+#[derive(Clone, Copy)]
 pub enum Source {
     Manual,
     Centre,
@@ -25,7 +25,7 @@ pub enum Source {
 }
 
 // A wish, and the place from 1 of the level that decided it, or 0.
-#[derive(Drop)]
+#[derive(Clone, Copy)]
 pub struct Choice {
     pub level: u16,
     pub wish: Wish,

@@ -3,7 +3,7 @@ ghost use Rattle.std.specs.Prelude.{◌≡◌, []};
 ghost use Rattle.word_value.specs.Digits.{grown, digits_read};
 
 // Whether a word is a number, and what is kept of its value; 0 where it is none.
-#[derive(Drop)]
+#[derive(Clone, Copy)]
 pub struct Digits {
     pub number: bool,
     pub value: u64,

@@ -1,4 +1,6 @@
 // The number that a word says.
+#![tactic(auto)]
+
 mod digits;
 mod signed;
 

@@ -5,7 +5,7 @@ ghost use Rattle.word_value.specs.Signed.{of_digits, kept_word, word_read};
 use crate::digits;
 use crate::digits::Digits;
 
-#[derive(Drop)]
+#[derive(Clone, Copy)]
 pub enum Word {
     Empty,
     TooLong,

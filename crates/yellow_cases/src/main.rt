@@ -1,6 +1,8 @@
 // Reads cases from standard input, each behind its length in two bytes: a speed and a grade. Each is five
 // numbers, a sign and a k, which has four of them, the highest first: k where the sign is 0, else -1 - k.
 // Prints of each case the speed, the grade and what the call answers.
+#![tactic(auto)]
+
 ghost use Rattle.std.specs.Prelude.{◌≤◌};
 
 // 2^63: a k is below it.

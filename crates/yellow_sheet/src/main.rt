@@ -1,5 +1,7 @@
 // Prints the districts' sheet of yellow times for slopes: for each approach speed the yellow at each
 // grade in steps of 10 per mille; or the yellow of one speed and one grade.
+#![tactic(auto)]
+
 mod answer;
 mod complaint;
 mod sheet;
