@@ -1,0 +1,12 @@
+-- The five numbers of the row, read at once or one by one.
+use Rattle.calendar.proofs.row_at.Goals as goal
+
+pub returns : goal.returns
+returns c =
+    simp (
+      c.number_at-5.ensures,
+      c.number_at-4.ensures,
+      c.number_at-3.ensures,
+      c.number_at-2.ensures,
+      c.number_at.ensures,
+    )

@@ -1,0 +1,48 @@
+-- Each of the ten numbers, and any other.
+use Rattle.group.specs.Intervals.{time_of}
+use Rattle.loops.proofs.Rules.{tests}
+use Rattle.group.proofs.interval.time_of.Goals as goal
+
+pub returns-in-0 : goal.returns-in-0
+unfolding time_of
+returns-in-0 c = simp c.in-0.keys1
+
+pub returns-in-1 : goal.returns-in-1
+unfolding time_of
+returns-in-1 c = simp c.in-1.keys2
+
+pub returns-in-2 : goal.returns-in-2
+unfolding time_of
+returns-in-2 c = simp c.in-2.keys3
+
+pub returns-in-3 : goal.returns-in-3
+unfolding time_of
+returns-in-3 c = simp c.in-3.keys4
+
+pub returns-in-4 : goal.returns-in-4
+unfolding time_of
+returns-in-4 c = simp c.in-4.keys5
+
+pub returns-in-5 : goal.returns-in-5
+unfolding time_of
+returns-in-5 c = simp c.in-5.keys6
+
+pub returns-in-6 : goal.returns-in-6
+unfolding time_of
+returns-in-6 c = simp c.in-6.keys7
+
+pub returns-in-7 : goal.returns-in-7
+unfolding time_of
+returns-in-7 c = simp c.in-7.keys8
+
+pub returns-in-8 : goal.returns-in-8
+unfolding time_of
+returns-in-8 c = simp c.in-8.keys9
+
+pub returns-in-9 : goal.returns-in-9
+unfolding time_of
+returns-in-9 c = simp c.in-9.keys10
+
+pub returns-in_default : goal.returns-in_default
+unfolding time_of
+returns-in_default c = search tests

@@ -1,0 +1,10 @@
+-- The loop's invariant: what is left to look through answers as the whole does.
+use Rattle.loops.proofs.AnyLaws.{AnyLeft}
+use Prim.Native.Nat.{◌-◌}
+use Rattle.inputs.proofs.any_metered_bad.Given as goal
+
+abbrev pub invariant-loop-i : goal.invariant-loop-i
+invariant-loop-i l = AnyLeft (bad l.s) l.n l.i
+
+abbrev pub decreases-loop-i : goal.decreases-loop-i
+decreases-loop-i l = l.n - l.i

@@ -1,0 +1,25 @@
+-- The report fits, so it stands there whole.
+use Prim.Native.Nat.{◌≤◌, ◌<◌}
+use mathlib.Core.Path.{ap, ap₂, sym, ◌∙◌}
+use mathlib.Core.List.{◌++◌}
+use native.Mathlib.Omega.{arith}
+use borrow.Author.Rules.{rules}
+use lib.ListN.{length, drop}
+use Rattle.text.specs.Put.{farthest}
+use Rattle.text.proofs.PutLaws.{put_as, put_front}
+use Rattle.joining.specs.declared.PlanList.{PlanList}
+use Rattle.join_plans.specs.JoinedSite.{plan_of}
+use Rattle.join_plans.specs.Report.{report_of}
+use Rattle.join_plans.proofs.ReportLaws.{report_most}
+use Rattle.join_plans.proofs.report.fill_report.Goals as goal
+
+pub returns : goal.returns
+returns c =
+    let a = c.args in
+    let name = a.name.now in
+    let other = a.other.now in
+    let text = report_of name (plan_of a.site) other (plan_of a.works) in
+    let same = ap₂ (λ (x y : PlanList). report_of name x other y) c.plan_of.ensures c.plan_of-2.ensures in
+    let room : 133456 ≤ length a.out.now = search rules in
+    let l : length a.out.now < farthest = search rules in
+    let f = put_front l (omega (arith, report_most name a.site other a.works c.requires)) (put_as same c.put_report.ensures) in (record { count = f.0; buffer = f.1 ∙ ap (λ n. text ++ drop n a.out.now) (sym f.0) })

@@ -1,0 +1,20 @@
+-- One text behind the other.
+use Prim.Native.Nat.{◌<◌}
+use borrow.Author.Rules.{rules}
+use lib.ListN.{length}
+use Rattle.text.specs.Put.{farthest}
+use Rattle.text.proofs.PutLaws.{put_then}
+use Rattle.join_plans.specs.Report.{shares_text}
+use Rattle.join_plans.proofs.report.put_shares.Goals as goal
+use Rattle.join_plans.proofs.report.put_shares.Goals.{After-put_bytes-a}
+
+bounded : (c : After-put_bytes-a) → length c.args.out.now < farthest
+bounded c = search rules
+
+pub returns : goal.returns
+unfolding shares_text
+returns c =
+    put_then (bounded (goal.at.returns c).After-slice_known-2-1) c.put_bytes-a.ensures
+    (λ l. put_then l c.put_of-b.ensures
+    (λ l. put_then l c.put_bytes-c.ensures
+    (λ l. put_then l c.put_of-d.ensures (λ _. c.put_bytes.ensures))))

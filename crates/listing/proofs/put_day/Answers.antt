@@ -1,0 +1,47 @@
+-- The loop's invariant: whatever puts the day's lines from the next start on puts all of them.
+use Rattle.listing.proofs.Turns.{minutes_turn, minutes_end, skip}
+use Rattle.listing.proofs.NextStart.{NextStart, next_start_is}
+use Rattle.listing.specs.Timetable.{starting_at}
+use Rattle.text.proofs.PutLaws.{put_turn, put_within, put_nothing}
+use Prim.Native.Nat.{ℕ, ◌+◌}
+use mathlib.Core.List.{List, ◌++◌}
+use mathlib.Core.Path.{ap, ◌∙◌}
+use borrow.Author.Rules.{rules}
+use native.Mathlib.Omega.{arith}
+use Rattle.listing.proofs.put_day.Goals as goal
+use Rattle.listing.proofs.put_day.Goals.{After-next_start-start-in-loop-start}
+
+-- The start after this one.
+then : (c : After-next_start-start-in-loop-start invariant-loop decreases-loop)
+    → let h = c.before.before.before.before.before.before in
+    NextStart h.before.before.before.before.args.rows.now h.before.before.before.before.args.count (h.loop.start + 1) c.next-start2.result
+then c =
+    let h = c.before.before.before.before.before.before in
+    let a = h.before.before.before.before.args in
+    rw (← c.next-start2.ensures) at (next_start_is a.rows.now (h.loop.start + 1) a.count (search rules))
+
+pub loop-start-init : goal.loop-start-init
+loop-start-init c =
+    let a = c.args in
+    let n = rw (← c.next_start-start.ensures) at (next_start_is a.rows.now 0 a.count (search rules)) in
+    (n.within, search rules, search rules, λ r d g. rw (skip a.rows.now a.count a.day 0 _ n) g)
+
+pub loop-start-smaller : goal.loop-start-smaller
+loop-start-smaller c = omega (arith, (then c).after)
+
+pub loop-start-preserved : goal.loop-start-preserved
+loop-start-preserved c =
+    let n = then c in
+    let a = c.args in (
+      n.within,
+      put_within c.put_starting-p.ensures,
+      search rules,
+      put_turn (search rules) c.put_starting-p.ensures
+          (minutes_turn a.rows.now a.count a.day c.loop-start.start (search rules) ∙ ap (λ (l : List ℕ). starting_at a.rows.now a.day c.loop-start.start 0 a.count ++ l) (skip a.rows.now a.count a.day (c.loop-start.start + 1) _ n))
+          c.loop-start.invariant.3,
+    )
+
+pub returns : goal.returns
+returns c =
+    let a = c.args in
+    c.loop-start.invariant.3 _ _ (rw (minutes_end a.rows.now a.count a.day c.loop-start.start (search rules)) (put_nothing _ _ c.loop-start.invariant.1))

@@ -1,0 +1,24 @@
+-- The code's tests are the definition's.
+use Rattle.period.specs.Range.{lane_kept}
+use Rattle.loops.proofs.Rules.{tests}
+use Rattle.period.proofs.range.lane_kept.Goals as goal
+
+pub returns-then-c-gt0 : goal.returns-then-c-gt0
+unfolding lane_kept
+returns-then-c-gt0 c = search tests
+
+pub returns-then-c-gt0-2 : goal.returns-then-c-gt0-2
+unfolding lane_kept
+returns-then-c-gt0-2 c = search tests
+
+pub returns-then-c-gt0-3 : goal.returns-then-c-gt0-3
+unfolding lane_kept
+returns-then-c-gt0-3 c = search tests
+
+pub returns-then-c-gt0-4 : goal.returns-then-c-gt0-4
+unfolding lane_kept
+returns-then-c-gt0-4 c = search tests
+
+pub returns : goal.returns
+unfolding lane_kept
+returns c = search tests

@@ -1,0 +1,43 @@
+-- The loop's invariant: the search that is left, from what was found so far, ends as the whole does.
+use Rattle.plan.proofs.Turns.{takes, skips, ends}
+use Rattle.plan.proofs.InForceLaws.{is_in_force}
+use Rattle.plan.specs.InForce.{takes_over, in_force_of}
+use Rattle.plan.specs.Entry.{entry_of}
+use Rattle.plan.specs.declared.Entry.{Entry}
+use Prim.Native.Nat.{◌<◌, ◌-◌}
+use mathlib.Core.Logic.{⊎_elim}
+use mathlib.Core.Path.{◌≡◌, ap, sym, ◌∙◌}
+use native.Mathlib.Omega.{arith}
+use borrow.Author.Rules.{rules}
+use Rattle.plan.proofs.in_force.Goals as goal
+use Rattle.plan.proofs.in_force.Goals.{After-loop-i}
+
+found : (c : After-loop-i invariant-loop decreases-loop)
+    → let a = c.before.before.before.args in c.before.loop.best ≡ in_force_of a.rows.now a.count a.day a.minute
+unfolding in_force_of
+found c =
+    let h = c.before in
+    let a = h.before.before.args in
+    sym (ends a.rows.now a.day a.minute h.loop.best h.loop.start h.loop.i _ c.loop-test.false) ∙ h.loop.invariant.1
+
+pub loop-i-init : goal.loop-i-init
+loop-i-init c = let n = c.args.count in let e : n - 0 ≡ n = omega arith in (search rules, rw e)
+
+pub loop-i-preserved : goal.loop-i-preserved
+loop-i-preserved c =
+    let a = c.args in
+    let e = c.entry_at-e.ensures in
+    let l : c.loop-i.i < a.count = search rules in
+    let same : c.takes_over.result ≡ takes_over (entry_of a.rows.now c.loop-i.i) a.day a.minute c.loop-i.best c.loop-i.start =
+    c.takes_over.ensures ∙ ap (λ (x : Entry). takes_over x a.day a.minute c.loop-i.best c.loop-i.start) e in (
+      search rules,
+      ⊎_elim
+          (λ w. rw (w.1, w.2, ap (λ (x : Entry). x.start) e)
+          (sym (takes a.rows.now a.day a.minute c.loop-i.best c.loop-i.start c.loop-i.i _ l (sym same ∙ w.0.taken)) ∙ c.loop-i.invariant.1))
+          (λ w. rw (w.1, w.2)
+          (sym (skips a.rows.now a.day a.minute c.loop-i.best c.loop-i.start c.loop-i.i _ l (sym same ∙ w.0.left)) ∙ c.loop-i.invariant.1))
+          c.if-takes_over.branch,
+    )
+
+pub returns : goal.returns
+returns c = let a = c.args in (record { is = found c; latest = rw (found c) (is_in_force a.rows.now a.count a.day a.minute) })

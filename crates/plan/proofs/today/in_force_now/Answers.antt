@@ -1,0 +1,83 @@
+-- The loop's invariant: the way that is left, from the day come to, ends as the whole does.
+use Rattle.plan.proofs.WayBack.{or_first, or_second, no_day_before, found_before, none_before}
+use Rattle.plan.specs.InForce.{in_force_of}
+use Rattle.plan.specs.PastMidnight.{days_back, last_minute, earlier, in_force_now}
+use Rattle.calendar.specs.Dates.{is_date, day_before}
+use Rattle.calendar.specs.Holidays.{day_type_of}
+use Rattle.calendar.proofs.DayTypeLaws.{no_date, some_date}
+use mathlib.Core.Path.{◌≡◌, refl, sym, ◌∙◌}
+use mathlib.Core.Bool.{true}
+use borrow.Author.Rules.{rules}
+use Rattle.plan.proofs.today.in_force_now.Goals as goal
+use Rattle.plan.proofs.today.in_force_now.Goals.{After-day_type-day, After-in_force-begun, After-in_force-place, Else-begun-ne0, Else-day-eq-NO_DAY}
+
+-- Of a date, today's place is the definition's,
+dated : (c : Else-day-eq-NO_DAY invariant-loop decreases-loop) → is_date c.before.before.before.args.today ≡ true
+dated c =
+    let s = c.before.before.before in
+    some_date s.args.today s.args.dates.now s.args.holidays (λ z. c.if1.false (s.requires ∙ z))
+
+begun-today : (c : After-in_force-begun invariant-loop decreases-loop)
+    → let a = c.before.before.before.before.args in
+    c.in_force.result ≡ in_force_of a.plan.now a.entries (day_type_of a.today a.dates.now a.holidays) a.minute
+begun-today c = rw (← c.before.before.before.before.requires) c.in_force.ensures.0
+
+-- and where it is none, the way back decides.
+none-begun : (c : Else-begun-ne0 invariant-loop decreases-loop)
+    → let a = c.before.before.before.before.before.args in
+    in_force_now (in_force_of a.plan.now a.entries) a.dates.now a.holidays a.today a.minute
+    ≡ earlier (in_force_of a.plan.now a.entries) a.dates.now a.holidays a.today days_back
+unfolding in_force_now
+none-begun c = rw (dated c.before.before) (or_second _ _ (sym (begun-today c.before) ∙ c.if2.false))
+
+-- The day type looked at is that of the day before,
+type-before : (c : After-day_type-day invariant-loop decreases-loop)
+    → let h = c.before.before.before in
+    let a = h.before.before.before.before.before.before.args in
+    c.day_type_lem.result ≡ day_type_of (day_before h.loop.date) a.dates.now a.holidays
+type-before c = rw (← c.before.day-before.ensures) c.day_type_lem.ensures.0
+
+-- and the place is the one in force at its end.
+place-before : (c : After-in_force-place invariant-loop decreases-loop)
+    → let h = c.before.before.before.before.before in
+    let a = h.before.before.before.before.before.before.args in
+    c.in-force2.result ≡ in_force_of a.plan.now a.entries (day_type_of (day_before h.loop.date) a.dates.now a.holidays) last_minute
+place-before c = rw (← type-before c.before.before) c.in-force2.ensures.0
+
+pub returns-then-day-eq-NO_DAY : goal.returns-then-day-eq-NO_DAY
+unfolding in_force_now
+returns-then-day-eq-NO_DAY c =
+    rw (no_date c.args.today c.args.dates.now c.args.holidays (sym c.requires ∙ c.if-day-eq-NO_DAY.true))
+
+pub returns-then-begun-ne0 : goal.returns-then-begun-ne0
+unfolding in_force_now
+returns-then-begun-ne0 c =
+    let e = begun-today (goal.at.returns-then-begun-ne0 c).After-in_force-begun in
+    rw (dated (goal.at.returns-then-begun-ne0 c).Else-day-eq-NO_DAY) (e ∙ sym (or_first _ _ (λ z. c.if-begun-ne0.true (e ∙ z))))
+
+pub loop-left-init : goal.loop-left-init
+loop-left-init c = refl
+
+pub returns-then-day-eq-NO_DAY-2 : goal.returns-then-day-eq-NO_DAY-2
+returns-then-day-eq-NO_DAY-2 c =
+    let a = c.args in
+    let e = no_day_before (in_force_of a.plan.now a.entries) a.dates.now a.holidays c.loop-left.date c.loop-left.left (search rules) (sym (type-before (goal.at.returns-then-day-eq-NO_DAY-2 c).After-day_type-day) ∙ c.if-day-eq-NO_DAY-2.true) in
+    sym (none-begun (goal.at.returns-then-day-eq-NO_DAY-2 c).Else-begun-ne0 ∙ sym c.loop-left.invariant ∙ e)
+
+pub returns-then-place-ne0 : goal.returns-then-place-ne0
+returns-then-place-ne0 c =
+    let a = c.args in
+    let p = place-before (goal.at.returns-then-place-ne0 c).After-in_force-place in
+    let e = found_before (in_force_of a.plan.now a.entries) a.dates.now a.holidays c.loop-left.date c.loop-left.left (search rules) (λ z. c.if-day-eq-NO_DAY-2.false (type-before (goal.at.returns-then-place-ne0 c).After-day_type-day ∙ z)) (λ z. c.if-place-ne0.true (p ∙ z)) in
+    p ∙ sym e ∙ c.loop-left.invariant ∙ sym (none-begun (goal.at.returns-then-place-ne0 c).Else-begun-ne0)
+
+pub loop-left-preserved : goal.loop-left-preserved
+loop-left-preserved c =
+    let a = c.args in
+    let e = none_before (in_force_of a.plan.now a.entries) a.dates.now a.holidays c.loop-left.date c.loop-left.left (search rules) (λ z. c.if-day-eq-NO_DAY-2.false (type-before (goal.at.loop-left-preserved c).After-day_type-day ∙ z)) (sym (place-before (goal.at.loop-left-preserved c).After-in_force-place) ∙ c.if-place-ne0.false) in
+    rw c.day_before-date.ensures (sym e ∙ c.loop-left.invariant)
+
+pub returns : goal.returns
+returns c =
+    let e : c.loop-left.left ≡ 0 = search rules in
+    (rw e at c.loop-left.invariant) ∙ sym (none-begun (goal.at.returns c).Else-begun-ne0)

@@ -1,0 +1,10 @@
+-- The loop ends with the last byte.
+use Prim.Native.Nat.{◌-◌}
+use lib.ListN.{length}
+use Rattle.test_output.proofs.untouched.Given as goal
+
+abbrev pub invariant-loop-i : goal.invariant-loop-i
+invariant-loop-i l = Unit {0}
+
+abbrev pub decreases-loop-i : goal.decreases-loop-i
+decreases-loop-i l = length l.buffer - l.i

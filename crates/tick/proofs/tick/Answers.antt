@@ -1,0 +1,59 @@
+-- The checks, then the refused or the accepted tick.
+use Rattle.tick.specs.declared.Ticked.{Ticked}
+use Rattle.tick.specs.Tick.{refused_tick, tick_of}
+use Rattle.tick.proofs.TickLaws.{accepted, tick_day, tick_entry, tick_levelled, tick_steered, tick_cycle, tick_searched, tick_bypassed}
+use Rattle.tick.proofs.ServingLaws.{over_lists}
+use borrow.Author.Tests.{ne_eqb, eq-eqb}
+use mathlib.Core.Path.{◌≡◌, ap, sym, ◌∙◌}
+use Rattle.tick.proofs.tick.Goals as goal
+
+pub returns-then-refusal-ne0 : goal.returns-then-refusal-ne0
+unfolding tick_of refused_tick
+returns-then-refusal-ne0 c =
+    let never : c.refused.result.refusal ≡ 0 → ⊥ =
+    λ z. c.if-refusal-ne0.true (sym (ap (λ (t : Ticked). t.refusal) c.refused.ensures) ∙ z) in (
+      rw (← c.refusal_of-refusal.ensures, ne_eqb _ _ c.if-refusal-ne0.true) c.refused.ensures,
+      (
+        (λ z. absurd (never z)),
+        (
+          (λ z. absurd (never z)),
+          (
+            (λ z. absurd (never z)),
+            ((λ z. absurd (never z)), ((λ z. absurd (never z)), ((λ z. absurd (never z)), ((λ z. absurd (never z)), ((λ z. absurd (never z)), over_lists _))))),
+          ),
+        ),
+      ),
+    )
+
+pub advance-requires : goal.advance-requires
+advance-requires c = sym c.refusal_of-refusal.ensures ∙ c.if-refusal-ne0.false
+
+pub returns : goal.returns
+unfolding tick_of
+returns c =
+    let a = c.args in
+    let passed = accepted a.site a.state a.input (sym c.refusal_of-refusal.ensures ∙ c.if-refusal-ne0.false) in (
+      rw (← c.refusal_of-refusal.ensures, eq-eqb _ _ c.if-refusal-ne0.false) c.advance.ensures.is,
+      (
+        (λ _. c.advance.ensures.kept),
+        (
+          (λ _. rw c.advance.ensures.is (tick_day a.site a.state a.input passed)),
+          (
+            (λ _. rw c.advance.ensures.is (tick_entry a.site a.state a.input passed)),
+            (
+              (λ _. rw c.advance.ensures.is (tick_levelled a.site a.state a.input passed)),
+              (
+                (λ _. rw c.advance.ensures.is (tick_steered a.site a.state a.input)),
+                (
+                  (λ _. rw c.advance.ensures.is (tick_cycle a.site a.state a.input passed)),
+                  (
+                    (λ _. rw c.advance.ensures.is (tick_searched a.site a.state a.input passed)),
+                    ((λ _. rw c.advance.ensures.is (tick_bypassed a.site a.state a.input passed)), over_lists _),
+                  ),
+                ),
+              ),
+            ),
+          ),
+        ),
+      ),
+    )

@@ -1,0 +1,10 @@
+-- The loop's invariant: what is left to look through answers as the whole does.
+use Rattle.tick_diagnosis.proofs.NumberLaws.{FirstLeft}
+use Prim.Native.Nat.{◌-◌}
+use Rattle.tick_diagnosis.proofs.number.in_mainline_lanes.Given as goal
+
+abbrev pub invariant-loop-j : goal.invariant-loop-j
+invariant-loop-j l = FirstLeft (lane l.s) l.m l.rest l.j
+
+abbrev pub decreases-loop-j : goal.decreases-loop-j
+decreases-loop-j l = l.m - l.j

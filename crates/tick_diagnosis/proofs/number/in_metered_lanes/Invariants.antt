@@ -1,0 +1,10 @@
+-- The loop's invariant: what is left to look through answers as the whole does.
+use Rattle.tick_diagnosis.proofs.NumberLaws.{FirstLeft}
+use Prim.Native.Nat.{◌-◌}
+use Rattle.tick_diagnosis.proofs.number.in_metered_lanes.Given as goal
+
+abbrev pub invariant-loop-i : goal.invariant-loop-i
+invariant-loop-i l = FirstLeft (lane l.s) l.n l.rest l.i
+
+abbrev pub decreases-loop-i : goal.decreases-loop-i
+decreases-loop-i l = l.n - l.i

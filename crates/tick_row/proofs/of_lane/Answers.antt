@@ -1,0 +1,12 @@
+-- The code's test is the definition's.
+use Rattle.loops.proofs.Rules.{tests}
+use Rattle.tick_row.specs.Row.{of_lane}
+use Rattle.tick_row.proofs.of_lane.Goals as goal
+
+pub returns-then-lanes-i : goal.returns-then-lanes-i
+unfolding of_lane
+returns-then-lanes-i c = search tests
+
+pub returns : goal.returns
+unfolding of_lane
+returns c = search (tests, c.number_at.ensures)

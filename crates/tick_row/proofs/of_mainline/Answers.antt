@@ -1,0 +1,7 @@
+-- Each lane's number is the definition's.
+use Rattle.tick_row.specs.Row.{of_mainline}
+use Rattle.tick_row.proofs.of_mainline.Goals as goal
+
+pub returns : goal.returns
+unfolding of_mainline
+returns c = simp (c.of_lane-6.ensures, c.of_lane-5.ensures, c.of_lane-4.ensures, c.of_lane-3.ensures, c.of_lane-2.ensures, c.of_lane.ensures)
