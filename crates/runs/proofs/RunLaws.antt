@@ -2,7 +2,7 @@
 -- it does not happen, it happens within more accepted calls than the rank. And what it brings about, if every call keeps that, lasts.
 use Prim.Native.Nat.{ℕ, zero, suc, ◌+◌, ◌≤◌, ◌<◌}
 use mathlib.Core.Path.{◌≡◌, sym}
-use mathlib.Core.Bool.{Bool, true, false, ◌&&◌, true≢false}
+use mathlib.Core.Bool.{Bool, true, false, cond, ◌&&◌, true≢false}
 use mathlib.Core.List.{List, [], ◌∷◌, ◌++◌}
 use native.Mathlib.Omega.{arith}
 use Rattle.loops.proofs.Cases.{by_test, or_else}
@@ -72,7 +72,7 @@ module _ {Course Call : Type 0} (onward : Course → Call → Course) (accepted 
         let on = keeps c call going given.0 in
         by_test (accepted c call && happens c call)
         (λ hit. endures Holds holds (onward c call) calls on given.1 (begins c call (second (accepted c call) hit)))
-        (λ miss. lasts Holds happens begins holds _ (onward c call) calls on given.1 (rw miss at e))
+        (λ miss. lasts Holds happens begins holds (cond (accepted c call) k (suc k)) (onward c call) calls on given.1 (rw miss at e))
       where
         second : (a : Bool) {b : Bool} → (a && b) ≡ true → b ≡ true
         second true e = e

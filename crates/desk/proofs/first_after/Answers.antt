@@ -7,10 +7,9 @@ use borrow.Author.Rules.{rules}
 use Rattle.desk.proofs.first_after.Goals as goal
 use Rattle.desk.proofs.first_after.Goals.{After-has_place}
 
-is_there : (c : After-has_place invariant-loop decreases-loop)
-    → let h = c.before.before.before in
-    c.has-place.result ≡ has_place h.before.args.d (next_of 32 h.loop.k)
-is_there c = c.has-place.ensures ∙ ap (has_place c.before.before.before.before.args.d) c.before.next_place.ensures
+is_there : (c : After-has_place)
+    → c.has_place.result ≡ has_place c.args.d (next_of 32 c.loop-more.k)
+is_there c = c.has_place.ensures ∙ ap (has_place c.args.d) c.next_place-k.ensures
 
 pub loop-more-init : goal.loop-more-init
 loop-more-init c = refl

@@ -8,19 +8,19 @@ use Rattle.entry_text.proofs.put_mode_name.Goals as goal
 
 pub returns-in-0 : goal.returns-in-0
 unfolding mode_name
-returns-in-0 c = rw c.in-0.keys1 c.put_bytes.ensures
+returns-in-0 c = rw c.in-0.is c.put_bytes.ensures
 
 pub returns-in-1 : goal.returns-in-1
 unfolding mode_name
-returns-in-1 c = rw c.in-1.keys2 c.put_bytes-in-1.ensures
+returns-in-1 c = rw c.in-1.is c.put_bytes-in-1.ensures
 
 pub returns-in-2 : goal.returns-in-2
 unfolding mode_name
-returns-in-2 c = rw c.in-2.keys3 c.put_bytes-in-2.ensures
+returns-in-2 c = rw c.in-2.is c.put_bytes-in-2.ensures
 
 pub returns-in-3 : goal.returns-in-3
 unfolding mode_name
-returns-in-3 c = rw c.in-3.keys4 c.put_bytes-in-3.ensures
+returns-in-3 c = rw c.in-3.is c.put_bytes-in-3.ensures
 
 pub returns-in_default : goal.returns-in_default
 returns-in_default c =

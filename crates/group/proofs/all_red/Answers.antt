@@ -1,20 +1,16 @@
 -- The loop's invariant: what is left to look through answers as the whole does.
 use Rattle.group.specs.Group.{all_red}
 use Rattle.lanes.specs.declared.Lane.{Lane}
-use Rattle.lanes.specs.declared.Lanes.{Lanes}
-use Rattle.lanes.specs.Lanes.{lane_of}
 use Rattle.loops.proofs.AnyLaws.{any_found, any_turn, any_end}
-use Prim.Native.Nat.{ℕ, ◌-◌}
-use mathlib.Core.Bool.{Bool, not}
+use Prim.Native.Nat.{◌-◌}
+use mathlib.Core.Bool.{not}
 use mathlib.Core.Path.{◌≡◌, ap, sym, ◌∙◌}
 use lib.Dec.{eqb}
 use borrow.Author.Tests.{eq-eqb, ne_eqb}
 use native.Mathlib.Omega.{arith}
 use borrow.Author.Rules.{rules}
+use Rattle.group.proofs.all_red.Invariants.{other}
 use Rattle.group.proofs.all_red.Goals as goal
-
-abbrev other : Lanes → ℕ → Bool
-other s i = not (eqb (lane_of s i).colour 1)
 
 pub loop-i-init : goal.loop-i-init
 loop-i-init c = let e : c.args.n - 0 ≡ c.args.n = omega arith in (search rules, rw e)

@@ -1,8 +1,15 @@
 -- The loop's invariant: what is left to look through answers as the whole does.
+use Rattle.lanes.specs.declared.Lanes.{Lanes}
+use Rattle.lanes.specs.Lanes.{lane_of}
 use Rattle.loops.specs.Any.{any_from}
-use Prim.Native.Nat.{◌≤◌, ◌-◌}
+use Prim.Native.Nat.{ℕ, ◌≤◌, ◌-◌}
+use mathlib.Core.Bool.{Bool, not}
 use mathlib.Core.Path.{◌≡◌}
+use lib.Dec.{eqb}
 use Rattle.group.proofs.all_red.Given as goal
+
+abbrev pub other : Lanes → ℕ → Bool
+other s i = not (eqb (lane_of s i).colour 1)
 
 abbrev pub invariant-loop-i : goal.invariant-loop-i
 invariant-loop-i l = (l.i ≤ l.n) × (any_from (other l.s) l.i (l.n - l.i) ≡ any_from (other l.s) 0 l.n)

@@ -1,19 +1,14 @@
 -- The loop's invariant: what is left to look through answers as the whole does.
-use Rattle.inputs.specs.Samples.{lane_bad, lane_sample_of}
-use Rattle.inputs.specs.declared.Mainline.{Mainline}
+use Rattle.inputs.specs.Samples.{lane_bad}
 use Rattle.loops.proofs.AnyLaws.{left_at_start, left_found, left_turn, left_none}
-use Prim.Native.Nat.{ℕ}
-use mathlib.Core.Bool.{Bool}
 use mathlib.Core.Path.{◌≡◌, ap, sym, ◌∙◌}
 use borrow.Author.Rules.{rules}
+use Rattle.inputs.proofs.any_lane_bad.Invariants.{bad}
 use Rattle.inputs.proofs.any_lane_bad.Goals as goal
 use Rattle.inputs.proofs.any_lane_bad.Goals.{After-lane_bad}
 
-abbrev bad : Mainline → ℕ → Bool
-bad s j = lane_bad (lane_sample_of s j)
-
-is-bad : (c : After-lane_bad invariant-loop decreases-loop) → bad c.before.before.before.before.args.s c.before.before.before.loop.j ≡ c.lane-bad.result
-is-bad c = sym (c.lane-bad.ensures ∙ ap lane_bad c.before.lane-sample.ensures)
+is-bad : (c : After-lane_bad) → bad c.args.s c.loop-j.j ≡ c.lane_bad.result
+is-bad c = sym (c.lane_bad.ensures ∙ ap lane_bad c.lane_sample.ensures)
 
 pub loop-j-init : goal.loop-j-init
 loop-j-init c = left_at_start (bad c.args.s) c.args.m

@@ -1,19 +1,14 @@
 -- The loop's invariant: what is left to look through answers as the whole does.
-use Rattle.inputs.specs.Samples.{metered_bad, metered_sample_of}
-use Rattle.inputs.specs.declared.Metered.{Metered}
+use Rattle.inputs.specs.Samples.{metered_bad}
 use Rattle.loops.proofs.AnyLaws.{left_at_start, left_found, left_turn, left_none}
-use Prim.Native.Nat.{ℕ}
-use mathlib.Core.Bool.{Bool}
 use mathlib.Core.Path.{◌≡◌, ap, sym, ◌∙◌}
 use borrow.Author.Rules.{rules}
+use Rattle.inputs.proofs.any_metered_bad.Invariants.{bad}
 use Rattle.inputs.proofs.any_metered_bad.Goals as goal
 use Rattle.inputs.proofs.any_metered_bad.Goals.{After-metered_bad}
 
-abbrev bad : Metered → ℕ → Bool
-bad s i = metered_bad (metered_sample_of s i)
-
-is-bad : (c : After-metered_bad invariant-loop decreases-loop) → bad c.before.before.before.before.args.s c.before.before.before.loop.i ≡ c.metered-bad.result
-is-bad c = sym (c.metered-bad.ensures ∙ ap metered_bad c.before.metered-sample.ensures)
+is-bad : (c : After-metered_bad) → bad c.args.s c.loop-i.i ≡ c.metered_bad.result
+is-bad c = sym (c.metered_bad.ensures ∙ ap metered_bad c.metered_sample.ensures)
 
 pub loop-i-init : goal.loop-i-init
 loop-i-init c = left_at_start (bad c.args.s) c.args.n

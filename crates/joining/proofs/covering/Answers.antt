@@ -18,7 +18,7 @@ returns-then-covers c =
     let a = c.args in
     let t : covers (entry_of a.rows.now (c.loop-left.left - 1)) a.e ≡ true =
     sym (ap (λ (x : Entry). covers x a.e) c.entry_at-other.ensures) ∙ sym c.covers.ensures.is ∙ c.if-covers.true in
-let all = last_covering a.rows.now a.count a.e _ (rw (last_turn a.rows.now a.e c.loop-left.left (search rules), t) at c.loop-left.invariant.1) in record { is = all.0; words = all.1 }
+    let all = last_covering a.rows.now a.count a.e _ (rw (last_turn a.rows.now a.e c.loop-left.left (search rules), t) at c.loop-left.invariant.1) in record { is = all.0; words = all.1 }
 
 pub loop-left-preserved : goal.loop-left-preserved
 loop-left-preserved c =
@@ -31,4 +31,4 @@ pub returns : goal.returns
 returns c =
     let a = c.args in
     let z : c.loop-left.left ≡ 0 = search rules in
-let all = last_covering a.rows.now a.count a.e _ (rw z at c.loop-left.invariant.1) in record { is = all.0; words = all.1 }
+    let all = last_covering a.rows.now a.count a.e _ (rw z at c.loop-left.invariant.1) in record { is = all.0; words = all.1 }

@@ -7,8 +7,10 @@ use Rattle.joining.proofs.covers.Goals as goal
 
 pub returns-then-other-e : goal.returns-then-other-e
 unfolding covers
-returns-then-other-e c = let a = c.args in let all = in_words a.other a.e _ (rw (ne_eqb _ _ c.if-other-e.true)) in record { is = all.0; words = all.1 }
+returns-then-other-e c = let a = c.args in
+    let all = in_words a.other a.e _ (rw (ne_eqb _ _ c.if-other-e.true)) in record { is = all.0; words = all.1 }
 
 pub returns : goal.returns
 unfolding covers
-returns c = let a = c.args in let all = in_words a.other a.e _ (rw (eq-eqb _ _ c.if-other-e.false) (all_days a.other a.e)) in record { is = all.0; words = all.1 }
+returns c = let a = c.args in
+    let all = in_words a.other a.e _ (rw (eq-eqb _ _ c.if-other-e.false) (all_days a.other a.e)) in record { is = all.0; words = all.1 }

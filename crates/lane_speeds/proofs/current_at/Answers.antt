@@ -10,5 +10,5 @@ use Rattle.lane_speeds.proofs.current_at.Goals as goal
 pub returns : goal.returns
 returns c =
     let a = c.args in
-    let n : length a.t1.current ≡ 6 = search (rules, length_of_mapped) in
-    any_default a.t1.current _ _ a.j (omega arith)
+    let n : length a.k.current ≡ 6 = search (rules, length_of_mapped) in
+    any_default a.k.current _ _ a.j (omega arith)

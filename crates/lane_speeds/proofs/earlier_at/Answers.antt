@@ -9,5 +9,5 @@ use Rattle.lane_speeds.proofs.earlier_at.Goals as goal
 pub returns : goal.returns
 returns c =
     let a = c.args in
-    let n : length a.t1.earlier ≡ 6 = search rules in
-    any_default a.t1.earlier _ _ a.j (omega arith)
+    let n : length a.k.earlier ≡ 6 = search rules in
+    any_default a.k.earlier _ _ a.j (omega arith)

@@ -9,5 +9,5 @@ use Rattle.lanes.proofs.sample_at.Goals as goal
 pub returns-then-k-ge4 : goal.returns-then-k-ge4
 returns-then-k-ge4 c =
     let a = c.args in
-    let d : length a.t1 ≡ 4 = search rules in
-    rw (get_or-eq_default a.t1 0 {n = a.i} (omega arith))
+    let d : length a.samples ≡ 4 = search rules in
+    rw (get_or-eq_default a.samples 0 {n = a.i} (omega arith))

@@ -9,13 +9,12 @@ use Rattle.levels.proofs.deciding.Goals as goal
 use Rattle.levels.proofs.deciding.Goals.{After-decides_for}
 
 -- What `decides_for` answered of the last of the levels left.
-answered : (c : After-decides_for invariant-loop decreases-loop)
-    → let h = c.before.before.before in
-    let a = h.before.before.args in
-    c.decides-for.result ≡ decides (level_of a.rows.now (h.loop.place - 1)) a.table a.q
+answered : (c : After-decides_for)
+    → let a = c.args in
+    c.decides_for.result ≡ decides (level_of a.rows.now (c.loop-place.place - 1)) a.table a.q
 answered c =
-    let a = c.before.before.before.before.before.args in
-    c.decides-for.ensures ∙ ap (λ (l : Level). decides l a.table a.q) c.before.level-at.ensures
+    let a = c.args in
+    c.decides_for.ensures ∙ ap (λ (l : Level). decides l a.table a.q) c.level_at-l.ensures
 
 pub loop-place-init : goal.loop-place-init
 loop-place-init c = (search rules, refl)

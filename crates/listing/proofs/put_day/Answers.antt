@@ -12,13 +12,11 @@ use Rattle.listing.proofs.put_day.Goals as goal
 use Rattle.listing.proofs.put_day.Goals.{After-next_start-start-in-loop-start}
 
 -- The start after this one.
-then : (c : After-next_start-start-in-loop-start invariant-loop decreases-loop)
-    → let h = c.before.before.before.before.before.before in
-    NextStart h.before.before.before.before.args.rows.now h.before.before.before.before.args.count (h.loop.start + 1) c.next-start2.result
+then : (c : After-next_start-start-in-loop-start)
+    → NextStart c.args.rows.now c.args.count (c.loop-start.start + 1) c.next_start-start-in-loop-start.result
 then c =
-    let h = c.before.before.before.before.before.before in
-    let a = h.before.before.before.before.args in
-    rw (← c.next-start2.ensures) at (next_start_is a.rows.now (h.loop.start + 1) a.count (search rules))
+    let a = c.args in
+    rw (← c.next_start-start-in-loop-start.ensures) at (next_start_is a.rows.now (c.loop-start.start + 1) a.count (search rules))
 
 pub loop-start-init : goal.loop-start-init
 loop-start-init c =

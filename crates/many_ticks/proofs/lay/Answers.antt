@@ -16,12 +16,12 @@ overflow_cast-out c = omega (arith, c.requires.2 c.loop-i.i)
 pub loop-i-preserved : goal.loop-i-preserved
 loop-i-preserved c =
     let a = c.args in
-    let four : length a.t1.colours ≡ 4 = search rules in
-    (search rules, search rules, lane_laid a.t1.colours a.n a.t1.sign (omega (arith, four)) c.loop-i.out c.loop-i.i c.loop-i-test.true ∙ c.loop-i.invariant.2)
+    let four : length a.shown.colours ≡ 4 = search rules in
+    (search rules, search rules, lane_laid a.shown.colours a.n a.shown.sign (omega (arith, four)) c.loop-i.out c.loop-i.i c.loop-i-test.true ∙ c.loop-i.invariant.2)
 
 pub returns : goal.returns
 unfolding shown_bytes
 returns c =
     let a = c.args in
     let e : c.loop-i.i ≡ a.n = search rules in
-    sym (sign_laid a.t1.colours c.loop-i.out a.n a.t1.sign) ∙ (rw e at c.loop-i.invariant.2)
+    sym (sign_laid a.shown.colours c.loop-i.out a.n a.shown.sign) ∙ (rw e at c.loop-i.invariant.2)

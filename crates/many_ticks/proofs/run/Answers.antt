@@ -75,13 +75,13 @@ pub returns-then-spoilt : goal.returns-then-spoilt
 unfolding run_of
 returns-then-spoilt c =
     let a = c.args in
-let all = ends a.site a.state a.records.now a.out.now 14 _ c.stopped.ensures (rw (sym c.spoilt.ensures ∙ c.if-spoilt.true)) in record { is = all.0; output = all.1.0; kept = all.1.1.0; long = all.1.1.1.0; room = all.1.1.1.1.0; singly = all.1.1.1.1.1.0; blocks = all.1.1.1.1.1.1.0; waits = all.1.1.1.1.1.1.1.0; clears = all.1.1.1.1.1.1.1.1.0; serves = all.1.1.1.1.1.1.1.1.1.0; holds = all.1.1.1.1.1.1.1.1.1.1 }
+    let all = ends a.site a.state a.records.now a.out.now 14 _ c.stopped.ensures (rw (sym c.spoilt.ensures ∙ c.if-spoilt.true)) in record { is = all.0; output = all.1.0; kept = all.1.1.0; long = all.1.1.1.0; room = all.1.1.1.1.0; singly = all.1.1.1.1.1.0; blocks = all.1.1.1.1.1.1.0; waits = all.1.1.1.1.1.1.1.0; clears = all.1.1.1.1.1.1.1.1.0; serves = all.1.1.1.1.1.1.1.1.1.0; holds = all.1.1.1.1.1.1.1.1.1.1 }
 
 pub returns-then-spoilt-2 : goal.returns-then-spoilt-2
 unfolding run_of
 returns-then-spoilt-2 c =
     let a = c.args in
-let all = ends a.site a.state a.records.now a.out.now 13 _ c.stopped-then-spoilt-2.ensures
+    let all = ends a.site a.state a.records.now a.out.now 13 _ c.stopped-then-spoilt-2.ensures
     (rw (site-good (goal.at.returns-then-spoilt-2 c).Else-spoilt, sym (state_is (goal.at.returns-then-spoilt-2 c).After-spoilt-2) ∙ c.if-spoilt-2.true)) in record { is = all.0; output = all.1.0; kept = all.1.1.0; long = all.1.1.1.0; room = all.1.1.1.1.0; singly = all.1.1.1.1.1.0; blocks = all.1.1.1.1.1.1.0; waits = all.1.1.1.1.1.1.1.0; clears = all.1.1.1.1.1.1.1.1.0; serves = all.1.1.1.1.1.1.1.1.1.0; holds = all.1.1.1.1.1.1.1.1.1.1 }
 
 pub run_all-requires : goal.run_all-requires

@@ -1,8 +1,7 @@
 -- The loop's invariant: what is left to do comes to what the whole call comes to.
-use Prim.Native.Nat.{ℕ, ◌+◌, ◌-◌, ◌<◌, min}
-use mathlib.Core.Path.{◌≡◌, sym, ◌∙◌, ap, ap₂}
+use Prim.Native.Nat.{ℕ, ◌+◌, ◌-◌, ◌<◌}
+use mathlib.Core.Path.{◌≡◌, sym, ◌∙◌, ap}
 use mathlib.Core.Bool.{false}
-use mathlib.Core.List.{List}
 use native.Mathlib.Omega.{arith}
 use lib.ListN.{length, take, drop, length-drop, length-take}
 use lib.Seq.{sets}
@@ -14,95 +13,40 @@ use Rattle.tick.specs.Tick.{accepted_tick}
 use Rattle.tick.proofs.TickLaws.{input_passed}
 use Rattle.tick_record.specs.Record.{record_size}
 use Rattle.tick_record.proofs.RecordLaws.{some_record}
-use Rattle.many_ticks.specs.Many.{input_at, ticked_at, shown_bytes, record_refusal}
-use Rattle.many_ticks.proofs.PartLaws.{whole_or_cut}
-use Rattle.many_ticks.proofs.StepLaws.{Taken, taken}
+use Rattle.many_ticks.specs.Many.{input_at, ticked_at, shown_bytes}
 use Rattle.many_ticks.proofs.KnownLaws.{holds_nothing, holds_counted, holds_accepted}
 use Rattle.many_ticks.proofs.RunLaws.{left_at_start, left_turn, left_ends, at_refused, at_end}
+use Rattle.many_ticks.proofs.run_all.Invariants.{next, part-is, refusal_is, none-refuses, known}
 use Rattle.many_ticks.proofs.run_all.Goals as goal
-use Rattle.many_ticks.proofs.run_all.Goals.{After-check_record-checked, After-end_of-end, At-loop-from, Else-checked-ne0}
+use Rattle.many_ticks.proofs.run_all.Goals.{After-check_record-checked, Else-checked-ne0}
 
--- The next record, whole or cut short, at a turn of the loop.
-abbrev next : At-loop-from invariant-loop decreases-loop → List ℕ
-next l =
-    let a = l.before.before.before.before.before.before.before.args in
-    take (record_size (metered_lanes a.site) (mainline_lanes a.site)) (drop l.loop.from a.records.now)
-
--- It is the part that is taken,
-part-is : (c : After-end_of-end invariant-loop decreases-loop)
-    → let l = c.before.before in
-    let a = l.before.before.before.before.before.before.before.args in
-    take (c.end_of_lem.result - l.loop.from) (drop l.loop.from a.records.now) ≡ next l
-part-is c =
-    let l = c.before.before in
-    let a = l.before.before.before.before.before.before.before.args in
-    let size = record_size (metered_lanes a.site) (mainline_lanes a.site) in
-    let rest = drop l.loop.from a.records.now in
-    let e : c.end_of_lem.result - l.loop.from ≡ min size (length rest) = omega (arith, c.end_of_lem.ensures, l.loop.invariant.0, length-drop l.loop.from a.records.now) in
-    ap (λ (k : ℕ). take k rest) e ∙ whole_or_cut size rest
-
--- its refusal is the definition's,
-refusal_is : (c : After-check_record-checked invariant-loop decreases-loop)
-    → let l = c.before.before.before.before in
-    let a = l.before.before.before.before.before.before.before.args in
-    c.check-record.result.refusal ≡ record_refusal a.site l.loop.state (length a.out.now - l.loop.at) (next l)
-refusal_is c =
-    let l = c.before.before.before.before in
-    let a = l.before.before.before.before.before.before.before.args in
-    let v = l.loop.invariant.3 in
-    let room : length l.loop.out - l.loop.at ≡ length a.out.now - l.loop.at = ap (λ (k : ℕ). k - l.loop.at) v.long in
-    c.check-record.ensures.0 l.loop.state v.good ∙ ap₂ (record_refusal a.site l.loop.state) room (part-is c.before.before)
-
--- and where it is accepted, it is whole, its tick is the definition's and so are the state and the bytes that this leaves.
-none-refuses : (c : Else-checked-ne0 invariant-loop decreases-loop)
-    → let l = c.before.before.before.before.before.before in
-    let a = l.before.before.before.before.before.before.before.args in
-    record_refusal a.site l.loop.state (length a.out.now - l.loop.at) (next l) ≡ 0
-none-refuses c = sym (refusal_is c.before.before) ∙ c.if1.false
-
-known : (c : Else-checked-ne0 invariant-loop decreases-loop)
-    → let l = c.before.before.before.before.before.before in
-    let a = l.before.before.before.before.before.before.before.args in
-    Taken a.site l.loop.state (next l) (length a.out.now - l.loop.at)
-known c =
-    let l = c.before.before.before.before.before.before in
-    let a = l.before.before.before.before.before.before.before.args in
-    taken a.site l.loop.state (next l) (length a.out.now - l.loop.at) (none-refuses c)
-
-input-is : (c : Else-checked-ne0 invariant-loop decreases-loop)
-    → let l = c.before.before.before.before.before.before in
-    let a = l.before.before.before.before.before.before.before.args in
-    c.before.before.check-record.result.input ≡ input_at a.site (next l)
+input-is : (c : Else-checked-ne0)
+    → let a = c.args in
+    c.check_record-checked.result.input ≡ input_at a.site (next c.before.before.before.before.before.before)
 input-is c =
-    let l = c.before.before.before.before.before.before in
-    let a = l.before.before.before.before.before.before.before.args in
-    c.before.before.check-record.ensures.1 c.if1.false ∙ ap (input_at a.site) (part-is c.before.before.before.before)
+    let a = c.args in
+    c.check_record-checked.ensures.input c.if-checked-ne0.false ∙ ap (input_at a.site) (part-is c.before.before.before.before)
 
-ticked-is : (c : Else-checked-ne0 invariant-loop decreases-loop)
-    → let l = c.before.before.before.before.before.before in
-    let a = l.before.before.before.before.before.before.before.args in
-    accepted_tick a.site l.loop.state c.before.before.check-record.result.input ≡ ticked_at a.site l.loop.state (next l)
+ticked-is : (c : Else-checked-ne0)
+    → let a = c.args in
+    accepted_tick a.site c.loop-from.state c.check_record-checked.result.input ≡ ticked_at a.site c.loop-from.state (next c.before.before.before.before.before.before)
 ticked-is c =
-    let l = c.before.before.before.before.before.before in
-    let a = l.before.before.before.before.before.before.before.args in
-    ap (accepted_tick a.site l.loop.state) (input-is c) ∙ sym (known c).is
+    let a = c.args in
+    ap (accepted_tick a.site c.loop-from.state) (input-is c) ∙ sym (known c).is
 
-end_is : (c : Else-checked-ne0 invariant-loop decreases-loop)
-    → let l = c.before.before.before.before.before.before in
-    let a = l.before.before.before.before.before.before.before.args in
-    c.before.before.before.before.end_of_lem.result ≡ l.loop.from + record_size (metered_lanes a.site) (mainline_lanes a.site)
+end_is : (c : Else-checked-ne0)
+    → let a = c.args in
+    c.end_of-end.result ≡ c.loop-from.from + record_size (metered_lanes a.site) (mainline_lanes a.site)
 end_is c =
-    let l = c.before.before.before.before.before.before in
-    let a = l.before.before.before.before.before.before.before.args in
+    let a = c.args in
     let size = record_size (metered_lanes a.site) (mainline_lanes a.site) in
-    let rest = drop l.loop.from a.records.now in
-    omega (arith, c.before.before.before.before.end_of_lem.ensures, l.loop.invariant.0, (known c).whole, length-take size rest, length-drop l.loop.from a.records.now)
+    let rest = drop c.loop-from.from a.records.now in
+    omega (arith, c.end_of-end.ensures, c.loop-from.invariant.0, (known c).whole, length-take size rest, length-drop c.loop-from.from a.records.now)
 
 -- What the tick is given is accepted.
-no_check : (c : Else-checked-ne0 invariant-loop decreases-loop)
-    → let l = c.before.before.before.before.before.before in
-    let a = l.before.before.before.before.before.before.before.args in
-    tick_refusal a.site l.loop.state c.before.before.check-record.result.input ≡ 0
+no_check : (c : Else-checked-ne0)
+    → let a = c.args in
+    tick_refusal a.site c.loop-from.state c.check_record-checked.result.input ≡ 0
 no_check c = rw (input-is c) (known c).no_check
 
 pub loop-from-init : goal.loop-from-init

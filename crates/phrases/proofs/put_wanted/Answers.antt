@@ -14,6 +14,6 @@ bounded c = search rules
 pub returns : goal.returns
 unfolding wanted_line
 returns c =
-    put_then (bounded (goal.at.returns c).After-out-1) c.put_decimal-p.ensures
+    put_then (bounded (goal.at.returns c).After-put_decimal-p) c.put_decimal-p.ensures
     (λ l. put_then l c.put_arguments-q.ensures
     (λ l. put_then l c.put_bytes-r.ensures (λ _. c.put_bytes.ensures)))

@@ -12,13 +12,12 @@ use borrow.Author.Rules.{rules}
 use Rattle.plan.proofs.in_force.Goals as goal
 use Rattle.plan.proofs.in_force.Goals.{After-loop-i}
 
-found : (c : After-loop-i invariant-loop decreases-loop)
-    → let a = c.before.before.before.args in c.before.loop.best ≡ in_force_of a.rows.now a.count a.day a.minute
+found : (c : After-loop-i)
+    → let a = c.args in c.loop-i.best ≡ in_force_of a.rows.now a.count a.day a.minute
 unfolding in_force_of
 found c =
-    let h = c.before in
-    let a = h.before.before.args in
-    sym (ends a.rows.now a.day a.minute h.loop.best h.loop.start h.loop.i _ c.loop-test.false) ∙ h.loop.invariant.1
+    let a = c.args in
+    sym (ends a.rows.now a.day a.minute c.loop-i.best c.loop-i.start c.loop-i.i _ c.loop-i-test.false) ∙ c.loop-i.invariant.1
 
 pub loop-i-init : goal.loop-i-init
 loop-i-init c = let n = c.args.count in let e : n - 0 ≡ n = omega arith in (search rules, rw e)

@@ -11,11 +11,11 @@ use Rattle.readings.proofs.lane_in.Goals as goal
 pub returns-then-i-ge6 : goal.returns-then-i-ge6
 returns-then-i-ge6 c =
     let a = c.args in
-    let n : length a.t1.lanes ≡ 6 = search (rules, length_of_mapped) in
-    c.no_reading.ensures ∙ sym (get_or-eq_default a.t1.lanes no_reading {n = a.j} (omega arith))
+    let n : length a.r.lanes ≡ 6 = search (rules, length_of_mapped) in
+    c.no_reading.ensures ∙ sym (get_or-eq_default a.r.lanes no_reading {n = a.j} (omega arith))
 
 pub returns : goal.returns
 returns c =
     let a = c.args in
-    let n : length a.t1.lanes ≡ 6 = search (rules, length_of_mapped) in
-    any_default a.t1.lanes _ _ a.j (omega arith)
+    let n : length a.r.lanes ≡ 6 = search (rules, length_of_mapped) in
+    any_default a.r.lanes _ _ a.j (omega arith)

@@ -9,14 +9,12 @@ use borrow.Author.Rules.{rules}
 use Rattle.release.proofs.first_ready.Goals as goal
 use Rattle.release.proofs.first_ready.Goals.{After-ready_at, Start}
 
-abbrev ready : Start invariant-loop decreases-loop → ℕ → Bool
+abbrev ready : Start → ℕ → Bool
 ready s = ready_at s.args.t s.args.cycle s.args.demand s.args.s
 
-is_ready_lem : (c : After-ready_at invariant-loop decreases-loop)
-    → let h = c.before.before.before in
-    let s = h.before in
-    c.ready_at.result ≡ ready s (next_of s.args.t.lanes h.loop.k)
-is_ready_lem c = c.ready_at.ensures ∙ ap (ready c.before.before.before.before) c.before.next-lane.ensures
+is_ready_lem : (c : After-ready_at)
+    → c.ready_at.result ≡ ready c.before.before.before.before (next_of c.args.t.lanes c.loop-more.k)
+is_ready_lem c = c.ready_at.ensures ∙ ap (ready c.before.before.before.before) c.next_lane-k.ensures
 
 pub loop-more-init : goal.loop-more-init
 loop-more-init c = refl

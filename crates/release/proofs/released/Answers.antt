@@ -22,10 +22,10 @@ pub returns-then-may_release : goal.returns-then-may_release
 unfolding released_of
 returns-then-may_release c =
     let a = c.args in
-let all = as_said a.t a.cycle a.demand a.s _ (rw (sym c.may_release.ensures ∙ c.if-may_release.true) c.first_ready.ensures) in record { is = all.0; finds = all.1.0; only = all.1.1 }
+    let all = as_said a.t a.cycle a.demand a.s _ (rw (sym c.may_release.ensures ∙ c.if-may_release.true) c.first_ready.ensures) in record { is = all.0; finds = all.1.0; only = all.1.1 }
 
 pub returns : goal.returns
 unfolding released_of
 returns c =
     let a = c.args in
-let all = as_said a.t a.cycle a.demand a.s 0 (rw (sym c.may_release.ensures ∙ c.if-may_release.false)) in record { is = all.0; finds = all.1.0; only = all.1.1 }
+    let all = as_said a.t a.cycle a.demand a.s 0 (rw (sym c.may_release.ensures ∙ c.if-may_release.false)) in record { is = all.0; finds = all.1.0; only = all.1.1 }

@@ -13,22 +13,22 @@ spoilt_section-requires c = let l : length c.args.site.timings ≡ most_of Timin
 
 pub returns-then-spoilt_section : goal.returns-then-spoilt_section
 unfolding spoilt_site
-returns-then-spoilt_section c = rw (← c.spoilt_section.ensures, c.if-spoilt_section.taken)
+returns-then-spoilt_section c = rw (← c.spoilt_section.ensures, c.if-spoilt_section.true)
 
 pub returns-then-spoilt_plan : goal.returns-then-spoilt_plan
 unfolding spoilt_site
-returns-then-spoilt_plan c = rw (← c.spoilt_section.ensures, c.if-spoilt_section.left, ← c.spoilt_plan.ensures, c.if-spoilt_plan.taken)
+returns-then-spoilt_plan c = rw (← c.spoilt_section.ensures, c.if-spoilt_section.false, ← c.spoilt_plan.ensures, c.if-spoilt_plan.true)
 
 pub spoilt_section-requires-2 : goal.spoilt_section-requires-2
 spoilt_section-requires-2 c = let l : length c.args.site.dates ≡ most_of Holidays = search rules in omega arith
 
 pub returns-then-spoilt_section-2 : goal.returns-then-spoilt_section-2
 unfolding spoilt_site
-returns-then-spoilt_section-2 c = rw (← c.spoilt_section.ensures, c.if-spoilt_section.left, ← c.spoilt_plan.ensures, c.if-spoilt_plan.left, ← c.spoilt_section-2.ensures, c.if-spoilt_section-2.taken)
+returns-then-spoilt_section-2 c = rw (← c.spoilt_section.ensures, c.if-spoilt_section.false, ← c.spoilt_plan.ensures, c.if-spoilt_plan.false, ← c.spoilt_section-2.ensures, c.if-spoilt_section-2.true)
 
 pub spoilt_section-requires-3 : goal.spoilt_section-requires-3
 spoilt_section-requires-3 c = let l : length c.args.site.tables ≡ most_of Levels = search rules in omega arith
 
 pub returns : goal.returns
 unfolding spoilt_site
-returns c = rw (← c.spoilt_section.ensures, c.if-spoilt_section.left, ← c.spoilt_plan.ensures, c.if-spoilt_plan.left, ← c.spoilt_section-2.ensures, c.if-spoilt_section-2.left) c.spoilt_section-3.ensures
+returns c = rw (← c.spoilt_section.ensures, c.if-spoilt_section.false, ← c.spoilt_plan.ensures, c.if-spoilt_plan.false, ← c.spoilt_section-2.ensures, c.if-spoilt_section-2.false) c.spoilt_section-3.ensures

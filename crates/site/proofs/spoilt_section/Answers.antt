@@ -14,7 +14,7 @@ use Rattle.site.proofs.spoilt_section.Goals as goal
 use Rattle.site.proofs.spoilt_section.Goals.{After-size-k, Else-not-allowed}
 
 is-allowed : (c : Else-not-allowed) → allowed_of c.args.section c.args.count ≡ true
-is-allowed c = sym c.allowed.ensures ∙ not-false _ c.if-not-allowed.left
+is-allowed c = sym c.allowed.ensures ∙ not-false _ c.if-not-allowed.false-raw
 
 is-part : (c : After-size-k) → c.size-k.result ≤ length c.args.v.now
 is-part c =
@@ -22,7 +22,7 @@ is-part c =
     omega (arith, c.size-k.ensures, fits a.section a.count (is-allowed c.before), c.requires)
 
 pub returns-then-not-allowed : goal.returns-then-not-allowed
-returns-then-not-allowed c = let a = c.args in spoilt_count a.section a.count a.v.now (sym c.allowed.ensures ∙ not-true _ c.if-not-allowed.taken)
+returns-then-not-allowed c = let a = c.args in spoilt_count a.section a.count a.v.now (sym c.allowed.ensures ∙ not-true _ c.if-not-allowed.true-raw)
 
 pub slice_bounds-first_bad-end : goal.slice_bounds-first_bad-end
 slice_bounds-first_bad-end c = sym (length-take-le _ _ (is-part (goal.at.slice_bounds-first_bad-end c).Else-not-allowed))
@@ -30,7 +30,7 @@ slice_bounds-first_bad-end c = sym (length-take-le _ _ (is-part (goal.at.slice_b
 pub returns-then-first_bad-k : goal.returns-then-first_bad-k
 returns-then-first_bad-k c =
     let a = c.args in
-    spoilt_number a.section a.count a.v.now (is-allowed (goal.at.returns-then-first_bad-k c).After-allowed) _ c.size-k.ensures _ c.first_bad.ensures c.if-first_bad-k.taken
+    spoilt_number a.section a.count a.v.now (is-allowed (goal.at.returns-then-first_bad-k c).After-allowed) _ c.size-k.ensures _ c.first_bad.ensures c.if-first_bad-k.true
 
 pub offset_bounds-v-k : goal.offset_bounds-v-k
 offset_bounds-v-k c = omega (arith, is-part (goal.at.offset_bounds-v-k c).Else-not-allowed)
@@ -46,4 +46,4 @@ returns c =
     let a = c.args in
     let k = c.size-k.result in
     ap not (c.all_zero-zeros_beyond.ensures ∙ ap zeros (take_all (length a.v.now - k) (drop k a.v.now) (le_of_eq (length-drop k a.v.now))))
-    ∙ spoilt_rest a.section a.count a.v.now (is-allowed (goal.at.returns c).After-allowed) _ c.size-k.ensures _ c.first_bad.ensures c.if-first_bad-k.left
+    ∙ spoilt_rest a.section a.count a.v.now (is-allowed (goal.at.returns c).After-allowed) _ c.size-k.ensures _ c.first_bad.ensures c.if-first_bad-k.false

@@ -14,7 +14,7 @@ short c = search rules
 pub returns : goal.returns
 unfolding place_text
 returns c =
-    put_then (short (goal.at.returns c).After-slice_known-2-1) c.put_bytes-p.ensures
+    put_then (short (goal.at.returns c).After-put_bytes-p) c.put_bytes-p.ensures
     (λ l. put_then l c.put_bytes-q.ensures
     (λ l. put_then l c.put_bytes-r.ensures
     (λ l. put_then l c.put_decimal-s.ensures

@@ -14,56 +14,56 @@ use Rattle.site_reader.proofs.read.Goals as goal
 pub returns-then-t-ne0 : goal.returns-then-t-ne0
 returns-then-t-ne0 c =
     let f = c.args.src.now in
-let all = keeps_rewritten f (λ i. (c.type_inv.src i).fits) _
-    (c.no_site.ensures ∙ sym (refused_0 f _ c.read_section-t.ensures.found c.if-t-ne0.taken)) in record { is = all.0; rewritten = all.1 }
+    let all = keeps_rewritten f (λ i. (c.type_inv.src i).fits) _
+    (c.no_site.ensures ∙ sym (refused_0 f _ c.read_section-t.ensures.found c.if-t-ne0.true)) in record { is = all.0; rewritten = all.1 }
 
 pub returns-then-e-ne0 : goal.returns-then-e-ne0
 returns-then-e-ne0 c =
     let f = c.args.src.now in
-let all = keeps_rewritten f (λ i. (c.type_inv.src i).fits) _
+    let all = keeps_rewritten f (λ i. (c.type_inv.src i).fits) _
     (c.no_site-then-e-ne0.ensures
-    ∙ sym (refused_1 f _ c.read_section-t.ensures.found c.if-t-ne0.left _ c.read_section-e.ensures.found c.if-e-ne0.taken)) in record { is = all.0; rewritten = all.1 }
+    ∙ sym (refused_1 f _ c.read_section-t.ensures.found c.if-t-ne0.false _ c.read_section-e.ensures.found c.if-e-ne0.true)) in record { is = all.0; rewritten = all.1 }
 
 pub returns-then-h-ne0 : goal.returns-then-h-ne0
 returns-then-h-ne0 c =
     let f = c.args.src.now in
-let all = keeps_rewritten f (λ i. (c.type_inv.src i).fits) _
+    let all = keeps_rewritten f (λ i. (c.type_inv.src i).fits) _
     (c.no_site-then-h-ne0.ensures
-    ∙ sym (refused_2 f _ c.read_section-t.ensures.found c.if-t-ne0.left _ c.read_section-e.ensures.found c.if-e-ne0.left _
-    c.read_section-h.ensures.found c.if-h-ne0.taken)) in record { is = all.0; rewritten = all.1 }
+    ∙ sym (refused_2 f _ c.read_section-t.ensures.found c.if-t-ne0.false _ c.read_section-e.ensures.found c.if-e-ne0.false _
+    c.read_section-h.ensures.found c.if-h-ne0.true)) in record { is = all.0; rewritten = all.1 }
 
 pub returns-then-l-ne0 : goal.returns-then-l-ne0
 returns-then-l-ne0 c =
     let f = c.args.src.now in
-let all = keeps_rewritten f (λ i. (c.type_inv.src i).fits) _
+    let all = keeps_rewritten f (λ i. (c.type_inv.src i).fits) _
     (c.no_site-then-l-ne0.ensures
-    ∙ sym (refused_3 f _ c.read_section-t.ensures.found c.if-t-ne0.left _ c.read_section-e.ensures.found c.if-e-ne0.left _
-    c.read_section-h.ensures.found c.if-h-ne0.left _ c.read_section-l.ensures.found c.if-l-ne0.taken)) in record { is = all.0; rewritten = all.1 }
+    ∙ sym (refused_3 f _ c.read_section-t.ensures.found c.if-t-ne0.false _ c.read_section-e.ensures.found c.if-e-ne0.false _
+    c.read_section-h.ensures.found c.if-h-ne0.false _ c.read_section-l.ensures.found c.if-l-ne0.true)) in record { is = all.0; rewritten = all.1 }
 
 pub overflow_mul-end : goal.overflow_mul-end
 overflow_mul-end c =
     let f = c.args.src.now in
     let e = c.read_section-l.ensures.found in
-    let g = accepted Levels (length f) (words f) c.read_section-h.result.next (sym (ap (λ (x : Found). x.refusal) e) ∙ c.if-l-ne0.left) in
+    let g = accepted Levels (length f) (words f) c.read_section-h.result.next (sym (ap (λ (x : Found). x.refusal) e) ∙ c.if-l-ne0.false) in
     omega (arith, c.requires.0.0, words_low f, g.whole, ap (λ (x : Found). x.next) (e ∙ g.is))
 
 pub returns-then-end-src : goal.returns-then-end-src
 returns-then-end-src c =
     let f = c.args.src.now in
-let all = keeps_rewritten f (λ i. (c.type_inv.src i).fits) _
+    let all = keeps_rewritten f (λ i. (c.type_inv.src i).fits) _
     (c.no_site-then-end-src.ensures
-    ∙ sym (too_long f _ c.read_section-t.ensures.found c.if-t-ne0.left _ c.read_section-e.ensures.found c.if-e-ne0.left _
-    c.read_section-h.ensures.found c.if-h-ne0.left _ c.read_section-l.ensures.found c.if-l-ne0.left c.if-end-src.taken)) in record { is = all.0; rewritten = all.1 }
+    ∙ sym (too_long f _ c.read_section-t.ensures.found c.if-t-ne0.false _ c.read_section-e.ensures.found c.if-e-ne0.false _
+    c.read_section-h.ensures.found c.if-h-ne0.false _ c.read_section-l.ensures.found c.if-l-ne0.false c.if-end-src.true)) in record { is = all.0; rewritten = all.1 }
 
 pub returns : goal.returns
 returns c =
     let f = c.args.src.now in
-let all = keeps_rewritten f (λ i. (c.type_inv.src i).fits) _
+    let all = keeps_rewritten f (λ i. (c.type_inv.src i).fits) _
     (rw (
-      c.read_section-t.ensures.filled c.if-t-ne0.left,
-      c.read_section-e.ensures.filled c.if-e-ne0.left,
-      c.read_section-h.ensures.filled c.if-h-ne0.left,
-      c.read_section-l.ensures.filled c.if-l-ne0.left,
+      c.read_section-t.ensures.filled c.if-t-ne0.false,
+      c.read_section-e.ensures.filled c.if-e-ne0.false,
+      c.read_section-h.ensures.filled c.if-h-ne0.false,
+      c.read_section-l.ensures.filled c.if-l-ne0.false,
     )
-    (sym (whole f _ c.read_section-t.ensures.found c.if-t-ne0.left _ c.read_section-e.ensures.found c.if-e-ne0.left _
-    c.read_section-h.ensures.found c.if-h-ne0.left _ c.read_section-l.ensures.found c.if-l-ne0.left c.if-end-src.left))) in record { is = all.0; rewritten = all.1 }
+    (sym (whole f _ c.read_section-t.ensures.found c.if-t-ne0.false _ c.read_section-e.ensures.found c.if-e-ne0.false _
+    c.read_section-h.ensures.found c.if-h-ne0.false _ c.read_section-l.ensures.found c.if-l-ne0.false c.if-end-src.false))) in record { is = all.0; rewritten = all.1 }

@@ -19,7 +19,7 @@ use Rattle.site_reader.proofs.read_section.Goals.{After-first_bad-bad, After-loa
 
 -- Past the second test the count is allowed,
 is-allowed : (c : Else-not-allowed) → allowed_of c.args.section c.word-count.result ≡ true
-is-allowed c = sym c.allowed.ensures ∙ not-false _ c.if-not-allowed.left
+is-allowed c = sym c.allowed.ensures ∙ not-false _ c.if-not-allowed.false-raw
 
 -- so that dst has room for the section.
 has_room : (c : After-size-k) → c.size-k.result ≤ length c.args.dst.now
@@ -58,7 +58,7 @@ returns-then-total-at c =
 pub returns-then-not-allowed : goal.returns-then-not-allowed
 returns-then-not-allowed c =
     let a = c.args in (record { found = c.not_found-then-not-allowed.ensures
-          ∙ sym (bad_count a.section _ (words a.src.now) a.at (omega (arith, words_high a.src.now)) _ c.word-count.ensures (sym c.allowed.ensures ∙ not-true _ c.if-not-allowed.taken)); filled = λ z. absurd (never _ _ _ c.not_found-then-not-allowed.ensures (search rules) z) })
+          ∙ sym (bad_count a.section _ (words a.src.now) a.at (omega (arith, words_high a.src.now)) _ c.word-count.ensures (sym c.allowed.ensures ∙ not-true _ c.if-not-allowed.true-raw)); filled = λ z. absurd (never _ _ _ c.not_found-then-not-allowed.ensures (search rules) z) })
 
 pub returns-then-total-at-2 : goal.returns-then-total-at-2
 returns-then-total-at-2 c =
@@ -78,7 +78,7 @@ pub slice_bounds-first_bad-end : goal.slice_bounds-first_bad-end
 slice_bounds-first_bad-end c = let l = (loaded (goal.at.slice_bounds-first_bad-end c).After-load).0 in simp length-append (omega arith)
 
 pub slice_bounds-first_bad-end-2 : goal.slice_bounds-first_bad-end-2
-slice_bounds-first_bad-end-2 c = sym (ap length (take_at c.load.last.1.1.0 _ _ (loaded (goal.at.slice_bounds-first_bad-end-2 c).After-load-arg-1).0) ∙ (loaded (goal.at.slice_bounds-first_bad-end-2 c).After-load-arg-1).0)
+slice_bounds-first_bad-end-2 c = sym (ap length (take_at c.load.last.1.1.0 _ _ (loaded (goal.at.slice_bounds-first_bad-end-2 c).Else-total-at-2).0) ∙ (loaded (goal.at.slice_bounds-first_bad-end-2 c).Else-total-at-2).0)
 
 pub returns-then-bad-k : goal.returns-then-bad-k
 returns-then-bad-k c =
@@ -86,9 +86,9 @@ returns-then-bad-k c =
     let b = c.bad_number.ensures in (record { found = c.not_found-then-bad-k.ensures
           ∙ rw b
           (sym (bad_number a.section _ (words a.src.now) a.at (omega (arith, words_high a.src.now)) _ c.word-count.ensures (is-allowed (goal.at.returns-then-bad-k c).After-allowed) _ c.size-k.ensures
-          (omega (arith, words_high a.src.now)) _ (looked (goal.at.returns-then-bad-k c).After-first_bad-bad) c.if-bad-k.taken)); filled = λ z. absurd (never _ _ _ c.not_found-then-bad-k.ensures (rw b (bad_number_positive a.section)) z) })
+          (omega (arith, words_high a.src.now)) _ (looked (goal.at.returns-then-bad-k c).After-first_bad-bad) c.if-bad-k.true)); filled = λ z. absurd (never _ _ _ c.not_found-then-bad-k.ensures (rw b (bad_number_positive a.section)) z) })
 
 pub returns : goal.returns
 returns c =
     let a = c.args in (record { found = sym (good a.section _ (words a.src.now) a.at (omega (arith, words_high a.src.now)) _ c.word-count.ensures (is-allowed (goal.at.returns c).After-allowed) _ c.size-k.ensures
-          (omega (arith, words_high a.src.now)) _ (looked (goal.at.returns c).After-first_bad-bad) c.if-bad-k.left); filled = λ z. ap₂ (λ (x : List ℕ) (k : ℕ). x ++ drop k a.dst.now) (loaded (goal.at.returns c).After-load-arg-1).1 (size_is (goal.at.returns c).Else-not-allowed) })
+          (omega (arith, words_high a.src.now)) _ (looked (goal.at.returns c).After-first_bad-bad) c.if-bad-k.false); filled = λ z. ap₂ (λ (x : List ℕ) (k : ℕ). x ++ drop k a.dst.now) (loaded (goal.at.returns c).Else-total-at-2).1 (size_is (goal.at.returns c).Else-not-allowed) })

@@ -49,5 +49,5 @@ returns c =
     let v = c.args.speed in
     let s = c.args.grade in
     let t : c.ticks.result ≡ ticks_of v s = c.ticks.ensures ∙ rw (to_z-of_z c.ranges.speed, to_z-of_z c.ranges.grade) in
-let all = promised v s (record { refusal = 0; ticks = c.ticks.result })
+    let all = promised v s (record { refusal = 0; ticks = c.ticks.result })
     (rw (← going (goal.at.returns c).After-speed_in, not-false c.speed_in.result c.if-not-speed_in.false-raw, ← tipped (goal.at.returns c).After-grade_in, not-false c.grade_in.result c.if-not-grade_in.false-raw, t)) in record { is = all.0; refuses = all.1.0; least = all.1.1.0; fits = all.1.1.1.0; upward = all.1.1.1.1.0; faster = all.1.1.1.1.1 }

@@ -3,9 +3,9 @@ use Rattle.text.proofs.ItemLaws.{item_ends, item_letter, past_comma, past_letter
 use Rattle.text.proofs.PutLaws.{put_turn, put_within, put_nothing}
 use lib.ListN.{length}
 use Prim.Native.Nat.{◌<◌}
-use mathlib.Core.Logic.{⊎_elim}
 use borrow.Author.Rules.{rules}
 use Rattle.text.proofs.put_item.Goals as goal
+use Rattle.text.proofs.put_item.Goals.{then-byte-eq44+else-left-eq0, else-byte-eq44+then-left-eq0-2, else-byte-eq44+else-left-eq0-2}
 
 pub loop-k-init : goal.loop-k-init
 loop-k-init c = (search rules, search rules, search rules, λ r d g. g)
@@ -20,27 +20,26 @@ pub loop-k-preserved : goal.loop-k-preserved
 loop-k-preserved c =
     let a = c.args in
     let l : c.loop-k.k < length a.list.now = search rules in
-    ⊎_elim
-    (λ w. (
-      search rules,
-      search rules,
-      search rules,
-      rw (w.2, w.3, w.4, ← past_comma a.list.now c.loop-k.k l c.loop-k.left w.0.taken w.1.left) c.loop-k.invariant.3,
-    ))
-    (⊎_elim
-    (λ w. (
-      search rules,
-      rw w.7 (put_within w.3.ensures),
-      search rules,
-      rw (w.6, w.7, w.8) (put_turn (search rules) w.3.ensures (item_letter a.list.now c.loop-k.k l c.loop-k.left w.0.left w.1.taken) c.loop-k.invariant.3),
-    ))
-    (λ w. (
-      search rules,
-      search rules,
-      search rules,
-      rw (w.2, w.3, w.4, ← past_letter a.list.now c.loop-k.k l c.loop-k.left w.0.left w.1.left) c.loop-k.invariant.3,
-    )))
-    c.if-byte-eq44.branch
+    elim c.if-byte-eq44.branch [
+      then-byte-eq44+else-left-eq0 w ↦ (
+        search rules,
+        search rules,
+        search rules,
+        rw (w.out-is, w.p-is, w.left-is, ← past_comma a.list.now c.loop-k.k l c.loop-k.left w.if-byte-eq44.true w.if-left-eq0.false) c.loop-k.invariant.3,
+      )
+    | else-byte-eq44+then-left-eq0-2 w ↦ (
+        search rules,
+        rw w.p-is (put_within w.put_byte-p.ensures),
+        search rules,
+        rw (w.out-is, w.p-is, w.left-is) (put_turn (search rules) w.put_byte-p.ensures (item_letter a.list.now c.loop-k.k l c.loop-k.left w.if-byte-eq44.false w.if-left-eq0-2.true) c.loop-k.invariant.3),
+      )
+    | else-byte-eq44+else-left-eq0-2 w ↦ (
+        search rules,
+        search rules,
+        search rules,
+        rw (w.out-is, w.p-is, w.left-is, ← past_letter a.list.now c.loop-k.k l c.loop-k.left w.if-byte-eq44.false w.if-left-eq0-2.false) c.loop-k.invariant.3,
+      )
+    ]
 
 pub returns : goal.returns
 returns c =

@@ -15,18 +15,18 @@ pub returns-then-others_red : goal.returns-then-others_red
 unfolding released_for
 returns-then-others_red c =
     let a = c.args in
-let all = as_said a.t a.s _
+    let all = as_said a.t a.s _
     (rw (← c.priority_lane-lane.ensures, ← c.has_been_red.ensures, c.if-has_been_red.true, ← c.others_red.ensures, c.if-others_red.true)) in record { is = all.0; finds = all.1 }
 
 pub returns-else-others_red : goal.returns-else-others_red
 unfolding released_for
 returns-else-others_red c =
     let a = c.args in
-let all = as_said a.t a.s _
+    let all = as_said a.t a.s _
     (rw (← c.priority_lane-lane.ensures, ← c.has_been_red.ensures, c.if-has_been_red.true, ← c.others_red.ensures, c.if-others_red.false)) in record { is = all.0; finds = all.1 }
 
 pub returns-else-has_been_red : goal.returns-else-has_been_red
 unfolding released_for
 returns-else-has_been_red c =
     let a = c.args in
-let all = as_said a.t a.s _ (rw (← c.priority_lane-lane.ensures, ← c.has_been_red.ensures, c.if-has_been_red.false)) in record { is = all.0; finds = all.1 }
+    let all = as_said a.t a.s _ (rw (← c.priority_lane-lane.ensures, ← c.has_been_red.ensures, c.if-has_been_red.false)) in record { is = all.0; finds = all.1 }

@@ -5,43 +5,43 @@ use Rattle.group.proofs.indication.colour_shown.Goals as goal
 
 pub returns-in-0 : goal.returns-in-0
 unfolding colour_shown
-returns-in-0 c = simp c.in-0.keys1
+returns-in-0 c = simp c.in-0.is
 
 pub returns-in-1 : goal.returns-in-1
 unfolding colour_shown
-returns-in-1 c = simp c.in-1.keys2
+returns-in-1 c = simp c.in-1.is
 
 pub returns-in-2 : goal.returns-in-2
 unfolding colour_shown
-returns-in-2 c = simp c.in-2.keys3
+returns-in-2 c = simp c.in-2.is
 
 pub returns-in-3 : goal.returns-in-3
 unfolding colour_shown
-returns-in-3 c = simp c.in-3.keys4
+returns-in-3 c = simp c.in-3.is
 
 pub returns-in-4 : goal.returns-in-4
 unfolding colour_shown
-returns-in-4 c = simp c.in-4.keys5
+returns-in-4 c = simp c.in-4.is
 
 pub returns-in-5 : goal.returns-in-5
 unfolding colour_shown
-returns-in-5 c = simp c.in-5.keys6
+returns-in-5 c = simp c.in-5.is
 
 pub returns-in-6 : goal.returns-in-6
 unfolding colour_shown
-returns-in-6 c = simp c.in-6.keys7
+returns-in-6 c = simp c.in-6.is
 
 pub returns-in-7 : goal.returns-in-7
 unfolding colour_shown
-returns-in-7 c = simp c.in-7.keys8
+returns-in-7 c = simp c.in-7.is
 
 pub returns-in-8 : goal.returns-in-8
 unfolding colour_shown
-returns-in-8 c = simp c.in-8.keys9
+returns-in-8 c = simp c.in-8.is
 
 pub returns-in-9 : goal.returns-in-9
 unfolding colour_shown
-returns-in-9 c = simp c.in-9.keys10
+returns-in-9 c = simp c.in-9.is
 
 pub returns-in_default : goal.returns-in_default
 unfolding colour_shown

@@ -8,12 +8,12 @@ use Rattle.join_plans.proofs.joined.write.Goals as goal
 pub returns-then-joined-ne0 : goal.returns-then-joined-ne0
 returns-then-joined-ne0 c =
     let a = c.args in
-let all = refused a.site a.works a.out.now c.join-joined.result
+    let all = refused a.site a.works a.out.now c.join-joined.result
     (c.join-joined.ensures.is ∙ ap₂ joined_of c.plan_of.ensures c.plan_of-2.ensures) c.if-joined-ne0.true _ c.refused_write.ensures in record { answer = all.0; buffer = all.1.0; back = all.1.1.0; only = all.1.1.1 }
 
 pub returns : goal.returns
 returns c =
     let a = c.args in
-let all = written a.site a.works a.out.now c.join-joined.result
+    let all = written a.site a.works a.out.now c.join-joined.result
     (c.join-joined.ensures.is ∙ ap₂ joined_of c.plan_of.ensures c.plan_of-2.ensures) (search rules) c.join-joined.ensures.words.1.0 c.with_list.result c.with_list.ensures _ _
     c.write.ensures.answer c.write.ensures.buffer.0 c.write.ensures.buffer.1.0 c.write.ensures.buffer.1.1 in record { answer = all.0; buffer = all.1.0; back = all.1.1.0; only = all.1.1.1 }

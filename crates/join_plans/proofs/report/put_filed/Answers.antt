@@ -14,7 +14,7 @@ bounded c = search rules
 pub returns : goal.returns
 unfolding filed_text
 returns c =
-    put_then (bounded (goal.at.returns c).After-slice_known-2-1) c.put_entry-a.ensures
+    put_then (bounded (goal.at.returns c).After-put_entry-a) c.put_entry-a.ensures
     (λ l. put_then l c.put_bytes-b.ensures
     (λ l. put_then l c.put_bytes-c.ensures
     (λ l. put_then l c.put_bytes-d.ensures

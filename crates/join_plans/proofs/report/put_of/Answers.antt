@@ -14,5 +14,5 @@ bounded c = search rules
 pub returns : goal.returns
 unfolding of_text
 returns c =
-    put_then (bounded (goal.at.returns c).After-out-1) c.put_decimal-a.ensures
+    put_then (bounded (goal.at.returns c).After-put_decimal-a) c.put_decimal-a.ensures
     (λ l. put_then l c.put_bytes-b.ensures (λ _. c.put_bytes.ensures))

@@ -14,7 +14,7 @@ bounded c = search rules
 pub returns : goal.returns
 unfolding shares_text
 returns c =
-    put_then (bounded (goal.at.returns c).After-slice_known-2-1) c.put_bytes-a.ensures
+    put_then (bounded (goal.at.returns c).After-put_bytes-a) c.put_bytes-a.ensures
     (λ l. put_then l c.put_of-b.ensures
     (λ l. put_then l c.put_bytes-c.ensures
     (λ l. put_then l c.put_of-d.ensures (λ _. c.put_bytes.ensures))))

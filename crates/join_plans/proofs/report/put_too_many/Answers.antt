@@ -14,7 +14,7 @@ bounded c = search rules
 pub returns : goal.returns
 unfolding too_many_text
 returns c =
-    put_then (bounded (goal.at.returns c).After-out-1) c.put_refused-a.ensures
+    put_then (bounded (goal.at.returns c).After-put_refused-a) c.put_refused-a.ensures
     (λ l. put_then l c.put_opening-b.ensures
     (λ l. put_then l c.put_decimal-c.ensures
     (λ l. put_then l c.put_bytes-d.ensures

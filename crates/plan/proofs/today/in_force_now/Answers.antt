@@ -12,37 +12,34 @@ use Rattle.plan.proofs.today.in_force_now.Goals as goal
 use Rattle.plan.proofs.today.in_force_now.Goals.{After-day_type-day, After-in_force-begun, After-in_force-place, Else-begun-ne0, Else-day-eq-NO_DAY}
 
 -- Of a date, today's place is the definition's,
-dated : (c : Else-day-eq-NO_DAY invariant-loop decreases-loop) → is_date c.before.before.before.args.today ≡ true
+dated : (c : Else-day-eq-NO_DAY) → is_date c.args.today ≡ true
 dated c =
-    let s = c.before.before.before in
-    some_date s.args.today s.args.dates.now s.args.holidays (λ z. c.if1.false (s.requires ∙ z))
+    some_date c.args.today c.args.dates.now c.args.holidays (λ z. c.if-day-eq-NO_DAY.false (c.requires ∙ z))
 
-begun-today : (c : After-in_force-begun invariant-loop decreases-loop)
-    → let a = c.before.before.before.before.args in
-    c.in_force.result ≡ in_force_of a.plan.now a.entries (day_type_of a.today a.dates.now a.holidays) a.minute
-begun-today c = rw (← c.before.before.before.before.requires) c.in_force.ensures.0
+begun-today : (c : After-in_force-begun)
+    → let a = c.args in
+    c.in_force-begun.result ≡ in_force_of a.plan.now a.entries (day_type_of a.today a.dates.now a.holidays) a.minute
+begun-today c = rw (← c.requires) c.in_force-begun.ensures.is
 
 -- and where it is none, the way back decides.
-none-begun : (c : Else-begun-ne0 invariant-loop decreases-loop)
-    → let a = c.before.before.before.before.before.args in
+none-begun : (c : Else-begun-ne0)
+    → let a = c.args in
     in_force_now (in_force_of a.plan.now a.entries) a.dates.now a.holidays a.today a.minute
     ≡ earlier (in_force_of a.plan.now a.entries) a.dates.now a.holidays a.today days_back
 unfolding in_force_now
-none-begun c = rw (dated c.before.before) (or_second _ _ (sym (begun-today c.before) ∙ c.if2.false))
+none-begun c = rw (dated c.before.before) (or_second _ _ (sym (begun-today c.before) ∙ c.if-begun-ne0.false))
 
 -- The day type looked at is that of the day before,
-type-before : (c : After-day_type-day invariant-loop decreases-loop)
-    → let h = c.before.before.before in
-    let a = h.before.before.before.before.before.before.args in
-    c.day_type_lem.result ≡ day_type_of (day_before h.loop.date) a.dates.now a.holidays
-type-before c = rw (← c.before.day-before.ensures) c.day_type_lem.ensures.0
+type-before : (c : After-day_type-day)
+    → let a = c.args in
+    c.day_type-day.result ≡ day_type_of (day_before c.loop-left.date) a.dates.now a.holidays
+type-before c = rw (← c.day_before-date.ensures) c.day_type-day.ensures.is
 
 -- and the place is the one in force at its end.
-place-before : (c : After-in_force-place invariant-loop decreases-loop)
-    → let h = c.before.before.before.before.before in
-    let a = h.before.before.before.before.before.before.args in
-    c.in-force2.result ≡ in_force_of a.plan.now a.entries (day_type_of (day_before h.loop.date) a.dates.now a.holidays) last_minute
-place-before c = rw (← type-before c.before.before) c.in-force2.ensures.0
+place-before : (c : After-in_force-place)
+    → let a = c.args in
+    c.in_force-place.result ≡ in_force_of a.plan.now a.entries (day_type_of (day_before c.loop-left.date) a.dates.now a.holidays) last_minute
+place-before c = rw (← type-before c.before.before) c.in_force-place.ensures.is
 
 pub returns-then-day-eq-NO_DAY : goal.returns-then-day-eq-NO_DAY
 unfolding in_force_now

@@ -15,4 +15,4 @@ returns-then-m-lt13 c = search tests
 
 pub returns-else-m-lt13 : goal.returns-else-m-lt13
 unfolding day_or_week_range
-returns-else-m-lt13 c = rw (eq-eqb _ _ c.if-kind-ne1.left, get_or-eq_default month_days 0 {n = c.args.month} c.if-m-lt13.left)
+returns-else-m-lt13 c = rw (eq-eqb _ _ c.if-kind-ne1.false, get_or-eq_default month_days 0 {n = c.args.month} c.if-m-lt13.false)

@@ -9,23 +9,23 @@ use Rattle.ranges.proofs.range.entry_range.Goals as goal
 
 pub returns-in-0 : goal.returns-in-0
 unfolding entry_range
-returns-in-0 c = rw c.in-0.keys1
+returns-in-0 c = rw c.in-0.is
 
 pub returns-in-1 : goal.returns-in-1
 unfolding entry_range
-returns-in-1 c = rw c.in-1.keys2
+returns-in-1 c = rw c.in-1.is
 
 pub returns-in-2 : goal.returns-in-2
 unfolding entry_range
-returns-in-2 c = rw c.in-2.keys3
+returns-in-2 c = rw c.in-2.is
 
 pub returns-in-3 : goal.returns-in-3
 unfolding entry_range
-returns-in-3 c = rw c.in-3.keys4 c.rate_range.ensures
+returns-in-3 c = rw c.in-3.is c.rate_range.ensures
 
 pub returns-in-4 : goal.returns-in-4
 unfolding entry_range
-returns-in-4 c = rw c.in-4.keys5 c.table_range.ensures
+returns-in-4 c = rw c.in-4.is c.table_range.ensures
 
 pub returns-in_default : goal.returns-in_default
 unfolding entry_range

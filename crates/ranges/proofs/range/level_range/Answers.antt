@@ -11,4 +11,4 @@ returns-then-j-lt5 c = search tests
 
 pub returns-else-j-lt5 : goal.returns-else-j-lt5
 unfolding level_range
-returns-else-j-lt5 c = sym (get_or-eq_default level_ranges only_zero {n = c.args.j} c.if-j-lt5.left)
+returns-else-j-lt5 c = sym (get_or-eq_default level_ranges only_zero {n = c.args.j} c.if-j-lt5.false)

@@ -14,4 +14,4 @@ pub slice_bounds-write_out-end : goal.slice_bounds-write_out-end
 slice_bounds-write_out-end c = whole (goal.at.slice_bounds-write_out-end c).After-put_last-end
 
 pub slice_bounds-write_out-end-2 : goal.slice_bounds-write_out-end-2
-slice_bounds-write_out-end-2 c = sym (length-take-le _ _ (whole (goal.at.slice_bounds-write_out-end-2 c).After-put_last-arg-1))
+slice_bounds-write_out-end-2 c = sym (length-take-le _ _ (whole (goal.at.slice_bounds-write_out-end-2 c).Start))

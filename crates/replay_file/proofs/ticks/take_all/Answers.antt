@@ -15,33 +15,33 @@ use Rattle.replay_file.proofs.ticks.take_all.Goals as goal
 use Rattle.replay_file.proofs.ticks.take_all.Goals.{After-take-taken, At-loop-from}
 
 -- Behind a call of take.
-module _ (c : After-take-taken invariant-loop decreases-loop) where
-  abbrev looped : At-loop-from invariant-loop decreases-loop
+module _ (c : After-take-taken) where
+  abbrev looped : At-loop-from
   looped = c.before.before.before.before
 
   abbrev all : List ℕ
   all = looped.before.before.before.args.bytes.now
 
-  within : looped.loop.from + c.take.result.bytes ≤ length all
-  within = omega (arith, looped.loop.inv.0, length-drop looped.loop.from all, rw (rest all looped.loop.from) at c.take.ensures.1.1.0)
+  within : looped.loop.from + c.take-taken.result.bytes ≤ length all
+  within = omega (arith, looped.loop.inv.0, length-drop looped.loop.from all, rw (rest all looped.loop.from) at c.take-taken.ensures.adds.1.0)
 
   here : looped.loop.from < length all
   here = search rules
 
-  some : 0 < c.take.result.bytes
+  some : 0 < c.take-taken.result.bytes
   some =
-      c.take.ensures.1.1.1.0 (omega (arith, looped.loop.inv.1, looped.before.before.before.pre))
+      c.take-taken.ensures.adds.1.1.0 (omega (arith, looped.loop.inv.1, looped.before.before.before.pre))
       (rw (rest all looped.loop.from) (omega (arith, length-drop looped.loop.from all, here)))
 
-  whole : c.take.result.text ≤ length c.take.new.1.1.1.0
-  whole = rw c.take.auto.1.1.1.0 c.take.ensures.1.1.1.1.0
+  whole : c.take-taken.result.text ≤ length c.take-taken.new.1.1.1.0
+  whole = rw c.take-taken.auto.1.1.1.0 c.take-taken.ensures.adds.1.1.1.0
 
-  fits : Fits w64 (looped.loop.from + c.take.result.bytes)
+  fits : Fits w64 (looped.loop.from + c.take-taken.result.bytes)
   fits = search (rules, within)
 
-  going : run_after looped.before.before.before.args.site (drop (looped.loop.from + c.take.result.bytes) all) c.take.result.run
+  going : run_after looped.before.before.before.args.site (drop (looped.loop.from + c.take-taken.result.bytes) all) c.take-taken.result.run
       ≡ run_after looped.before.before.before.args.site all looped.before.before.before.args.first
-  going = part_taken looped.before.before.before.args.site all looped.loop.from c.take.result.bytes looped.loop.run c.take.result.run (rw (rest all looped.loop.from) at c.take.ensures.0) ∙ looped.loop.inv.2
+  going = part_taken looped.before.before.before.args.site all looped.loop.from c.take-taken.result.bytes looped.loop.run c.take-taken.result.run (rw (rest all looped.loop.from) at c.take-taken.ensures.is) ∙ looped.loop.inv.2
 
 pub loop-from-init : goal.loop-from-init
 loop-from-init c = (search rules, search rules, refl)
@@ -50,19 +50,19 @@ pub slice_bounds-write_out-end : goal.slice_bounds-write_out-end
 slice_bounds-write_out-end c = whole (goal.at.slice_bounds-write_out-end c).After-take-taken
 
 pub slice_bounds-write_out-end-in-loop-from : goal.slice_bounds-write_out-end-in-loop-from
-slice_bounds-write_out-end-in-loop-from c = sym (length-take-le _ _ (whole (goal.at.slice_bounds-write_out-end-in-loop-from c).After-take-arg-in-loop-from-1))
+slice_bounds-write_out-end-in-loop-from c = sym (length-take-le _ _ (whole (goal.at.slice_bounds-write_out-end-in-loop-from c).In-loop-from))
 
 pub returns-then-not-write_out : goal.returns-then-not-write_out
 returns-then-not-write_out c = λ h. absurd (true≢false (sym h))
 
 pub overflow_add-from : goal.overflow_add-from
-overflow_add-from c = fits (goal.at.overflow_add-from c).After-take-arg-in-loop-from-1
+overflow_add-from c = fits (goal.at.overflow_add-from c).In-loop-from
 
 pub loop-from-smaller : goal.loop-from-smaller
-loop-from-smaller c = omega (arith, within (goal.at.loop-from-smaller c).After-take-arg-in-loop-from-1, some (goal.at.loop-from-smaller c).After-take-arg-in-loop-from-1)
+loop-from-smaller c = omega (arith, within (goal.at.loop-from-smaller c).In-loop-from, some (goal.at.loop-from-smaller c).In-loop-from)
 
 pub loop-from-preserved : goal.loop-from-preserved
-loop-from-preserved c = (within (goal.at.loop-from-preserved c).After-take-arg-in-loop-from-1, search rules, going (goal.at.loop-from-preserved c).After-take-arg-in-loop-from-1)
+loop-from-preserved c = (within (goal.at.loop-from-preserved c).In-loop-from, search rules, going (goal.at.loop-from-preserved c).In-loop-from)
 
 pub returns : goal.returns
 returns c = λ _. rw (drop_of_length-le c.args.bytes.now {i = c.loop-from.from} (search rules)) at c.loop-from.invariant.2

@@ -19,44 +19,39 @@ use Rattle.replay_lines.proofs.run.take.Goals as goal
 use Rattle.replay_lines.proofs.run.take.Goals.{After-after_line-run, After-shared_slice_known-in-loop-at-1}
 
 -- Before a byte is taken.
-below : (c : After-shared_slice_known-in-loop-at-1 invariant-loop decreases-loop) → c.before.before.loop.at < length c.before.before.before.before.before.before.before.args.bytes.now
+below : (c : After-shared_slice_known-in-loop-at-1) → c.loop-at.at < length c.args.bytes.now
 below c = search rules
 
-fits_word : (c : After-shared_slice_known-in-loop-at-1 invariant-loop decreases-loop) → Fits w64 (c.before.before.loop.at + 1)
+fits_word : (c : After-shared_slice_known-in-loop-at-1) → Fits w64 (c.loop-at.at + 1)
 fits_word c = search rules
 
-short : (c : After-shared_slice_known-in-loop-at-1 invariant-loop decreases-loop) → length c.before.before.before.before.before.before.before.args.out.now < farthest
+short : (c : After-shared_slice_known-in-loop-at-1) → length c.args.out.now < farthest
 short c = search rules
 
 -- Behind a line.
-module _ (c : After-after_line-run invariant-loop decreases-loop) where
-  abbrev after : After-shared_slice_known-in-loop-at-1 invariant-loop decreases-loop
+module _ (c : After-after_line-run) where
+  abbrev after : After-shared_slice_known-in-loop-at-1
   after = c.before.before.before.before.before.before.before.before.before.before
 
-  same_room : length c.before.before.before.put-line.new.0 ≡ length after.before.before.before.before.before.before.before.args.out.now
-  same_room = rw c.before.before.before.put-line.auto.0 after.before.before.loop.inv.2
+  same_room : length c.put_line-end.new.0 ≡ length after.before.before.before.before.before.before.before.args.out.now
+  same_room = rw c.put_line-end.auto.0 after.before.before.loop.inv.2
 
   behind_line : Reached after.before.before.before.before.before.before.before.args.site after.before.before.before.before.before.before.before.args.first
       after.before.before.before.before.before.before.before.args.bytes.now after.before.before.before.before.before.before.before.args.out.now
-      (after.before.before.loop.at + 1) c.after_Line.result c.before.before.before.put-line.result c.before.before.before.put-line.new.0
+      (after.before.before.loop.at + 1) c.after_line-run.result c.put_line-end.result c.put_line-end.new.0
   unfolding with_scan
   behind_line =
-      let p = c.before.before.before in
       let w = after.before.before in
       let a = after.before.before.before.before.before.before.before.args in
-      let l = p.before.before in
-      let f = l.before.before.before in
-      reached_same a.site (rw (l.line_of_lem.ensures, f.with-scan.ensures) at c.after_Line.ensures)
-      (reached_line a.site w.loop.inv.4 (below after) w.loop.inv.1 f.before.if2.false (short after) (rw (l.line_of_lem.ensures, f.with-scan.ensures) at p.put-line.ensures.0))
+      reached_same a.site (rw (c.line_of-line.ensures, c.with_scan-whole.ensures) at c.after_line-run.ensures)
+      (reached_line a.site w.loop.inv.4 (below after) w.loop.inv.1 c.if-b-ne10.false (short after) (rw (c.line_of-line.ensures, c.with_scan-whole.ensures) at c.put_line-end.ensures.is))
 
-  answer_fits : c.before.before.before.put-line.result ≤ length after.before.before.before.before.before.before.before.args.out.now
+  answer_fits : c.put_line-end.result ≤ length after.before.before.before.before.before.before.before.args.out.now
   answer_fits =
-      let p = c.before.before.before in
-      let l = p.before.before in
-      rw after.before.before.loop.inv.2 at (fits_in _ p.put-line.ensures.0 p.put-line.ensures.1 (sym l.before.before.has_room.ensures ∙ not-false _ l.before.if3.false))
+      rw after.before.before.loop.inv.2 at (fits_in _ c.put_line-end.ensures.is c.put_line-end.ensures.short (sym c.has_room.ensures ∙ not-false _ c.if-not-has_room.false-raw))
 
-  line_begins : with_scan c.after_Line.result line_start false ≡ c.after_Line.result
-  line_begins = rw c.after_Line.ensures (fresh_line _ _)
+  line_begins : with_scan c.after_line-run.result line_start false ≡ c.after_line-run.result
+  line_begins = rw c.after_line-run.ensures (fresh_line _ _)
 
 pub returns-then-first : goal.returns-then-first
 returns-then-first c = let a = c.args in let r = reached_end a.site (reached_start a.site a.first a.bytes.now a.out.now) c.if-first.true in (record { is = r.is; adds = r.adds; part = search rules; goes = λ _ h. h; fits = omega arith; polled = periods_polled _ })
@@ -83,10 +78,10 @@ pub returns-then-run : goal.returns-then-run
 returns-then-run c = let r = reached_end _ (behind_line (goal.at.returns-then-run c).After-after_line-run) c.if-run.true in (record { is = r.is; adds = r.adds; part = search rules; goes = λ _ h. h; fits = answer_fits (goal.at.returns-then-run c).After-after_line-run; polled = periods_polled _ })
 
 pub overflow_add-at-in-loop-at : goal.overflow_add-at-in-loop-at
-overflow_add-at-in-loop-at c = fits_word (goal.at.overflow_add-at-in-loop-at c).After-shared_slice_known-in-loop-at-1
+overflow_add-at-in-loop-at c = fits_word (goal.at.overflow_add-at-in-loop-at c).In-loop-at
 
 pub loop-at-smaller : goal.loop-at-smaller
-loop-at-smaller c = omega (arith, below (goal.at.loop-at-smaller c).After-shared_slice_known-in-loop-at-1)
+loop-at-smaller c = omega (arith, below (goal.at.loop-at-smaller c).In-loop-at)
 
 pub loop-at-preserved : goal.loop-at-preserved
 loop-at-preserved c =

@@ -47,9 +47,9 @@ pub slice_bounds-put_bad_number-end : goal.slice_bounds-put_bad_number-end
 slice_bounds-put_bad_number-end c = let l = (loaded (goal.at.slice_bounds-put_bad_number-end c).After-load).0 in simp length-append (omega arith)
 
 pub slice_bounds-put_bad_number-end-2 : goal.slice_bounds-put_bad_number-end-2
-slice_bounds-put_bad_number-end-2 c = sym (ap length (take_at c.load.last.1.1.0 _ _ (loaded (goal.at.slice_bounds-put_bad_number-end-2 c).After-load-arg-1).0) ∙ (loaded (goal.at.slice_bounds-put_bad_number-end-2 c).After-load-arg-1).0)
+slice_bounds-put_bad_number-end-2 c = sym (ap length (take_at c.load.last.1.1.0 _ _ (loaded (goal.at.slice_bounds-put_bad_number-end-2 c).After-size-n).0) ∙ (loaded (goal.at.slice_bounds-put_bad_number-end-2 c).After-size-n).0)
 
 pub returns : goal.returns
 returns c =
     let a = c.args in
-    rw (take_at c.load.last.1.1.0 (drop c.size-n.result a.v.now) _ (loaded (goal.at.returns c).After-load-arg-1).0 ∙ (loaded (goal.at.returns c).After-load-arg-1).1) at c.put_bad_number.ensures
+    rw (take_at c.load.last.1.1.0 (drop c.size-n.result a.v.now) _ (loaded (goal.at.returns c).After-size-n).0 ∙ (loaded (goal.at.returns c).After-size-n).1) at c.put_bad_number.ensures

@@ -1,20 +1,15 @@
 -- The loop's invariant: what is left to look through answers as the whole does.
 use Rattle.tick_diagnosis.specs.declared.number.Number.{Number}
 use Rattle.tick_diagnosis.specs.Numbers.{in_mainline}
-use Rattle.inputs.specs.Samples.{lane_sample_of}
-use Rattle.inputs.specs.declared.Mainline.{Mainline}
 use Rattle.tick_diagnosis.proofs.NumberLaws.{first_at_start, first_found, first_turn, first_none}
-use Prim.Native.Nat.{ℕ}
 use mathlib.Core.Path.{◌≡◌, ap, sym, ◌∙◌}
 use borrow.Author.Rules.{rules}
+use Rattle.tick_diagnosis.proofs.number.in_mainline_lanes.Invariants.{lane}
 use Rattle.tick_diagnosis.proofs.number.in_mainline_lanes.Goals as goal
 use Rattle.tick_diagnosis.proofs.number.in_mainline_lanes.Goals.{After-in_mainline-x}
 
-abbrev lane : Mainline → ℕ → Number
-lane s k = in_mainline k (lane_sample_of s k)
-
-is-lane : (c : After-in_mainline-x invariant-loop decreases-loop) → lane c.before.before.before.before.args.s c.before.before.before.loop.j ≡ c.in-mainline.result
-is-lane c = sym (c.in-mainline.ensures ∙ ap (in_mainline _) c.before.lane-sample.ensures)
+is-lane : (c : After-in_mainline-x) → lane c.args.s c.loop-j.j ≡ c.in_mainline-x.result
+is-lane c = sym (c.in_mainline-x.ensures ∙ ap (in_mainline _) c.lane_sample.ensures)
 
 pub loop-j-init : goal.loop-j-init
 loop-j-init c = first_at_start (lane c.args.s) c.args.m c.args.rest

@@ -1,20 +1,15 @@
 -- The loop's invariant: what is left to look through answers as the whole does.
 use Rattle.tick_diagnosis.specs.declared.number.Number.{Number}
 use Rattle.tick_diagnosis.specs.Numbers.{in_metered}
-use Rattle.inputs.specs.Samples.{metered_sample_of}
-use Rattle.inputs.specs.declared.Metered.{Metered}
 use Rattle.tick_diagnosis.proofs.NumberLaws.{first_at_start, first_found, first_turn, first_none}
-use Prim.Native.Nat.{ℕ}
 use mathlib.Core.Path.{◌≡◌, ap, sym, ◌∙◌}
 use borrow.Author.Rules.{rules}
+use Rattle.tick_diagnosis.proofs.number.in_metered_lanes.Invariants.{lane}
 use Rattle.tick_diagnosis.proofs.number.in_metered_lanes.Goals as goal
 use Rattle.tick_diagnosis.proofs.number.in_metered_lanes.Goals.{After-in_metered-x}
 
-abbrev lane : Metered → ℕ → Number
-lane s k = in_metered k (metered_sample_of s k)
-
-is-lane : (c : After-in_metered-x invariant-loop decreases-loop) → lane c.before.before.before.before.args.s c.before.before.before.loop.i ≡ c.in-metered.result
-is-lane c = sym (c.in-metered.ensures ∙ ap (in_metered _) c.before.metered-sample.ensures)
+is-lane : (c : After-in_metered-x) → lane c.args.s c.loop-i.i ≡ c.in_metered-x.result
+is-lane c = sym (c.in_metered-x.ensures ∙ ap (in_metered _) c.metered_sample.ensures)
 
 pub loop-i-init : goal.loop-i-init
 loop-i-init c = first_at_start (lane c.args.s) c.args.n c.args.rest

@@ -17,4 +17,4 @@ bounded c = search rules
 pub returns : goal.returns
 unfolding yellow_line
 returns c =
-    put_then (bounded (goal.at.returns c).After-put_bytes-arg-1) c.put_ticks-a.ensures (λ l. put_then l c.put_bytes-b.ensures (λ l. put_then l (put_as (ap signed (to_z-of_z c.ranges.speed)) c.put_signed-c.ensures) (λ l. put_then l c.put_bytes-d.ensures (λ l. put_then l (put_as (ap signed (to_z-of_z c.ranges.grade)) c.put_signed-e.ensures) (λ _. c.put_bytes.ensures)))))
+    put_then (bounded (goal.at.returns c).After-put_ticks-a) c.put_ticks-a.ensures (λ l. put_then l c.put_bytes-b.ensures (λ l. put_then l (put_as (ap signed (to_z-of_z c.ranges.speed)) c.put_signed-c.ensures) (λ l. put_then l c.put_bytes-d.ensures (λ l. put_then l (put_as (ap signed (to_z-of_z c.ranges.grade)) c.put_signed-e.ensures) (λ _. c.put_bytes.ensures)))))

@@ -14,4 +14,4 @@ bounded c = search rules
 pub returns : goal.returns
 unfolding ticks_text
 returns c =
-    put_then (bounded (goal.at.returns c).After-out-1) c.put_decimal-p.ensures (λ l. put_then l c.put_bytes-q.ensures (λ _. c.put_blank_and_seconds.ensures))
+    put_then (bounded (goal.at.returns c).After-put_decimal-p) c.put_decimal-p.ensures (λ l. put_then l c.put_bytes-q.ensures (λ _. c.put_blank_and_seconds.ensures))

@@ -14,4 +14,4 @@ bounded c = search rules
 pub returns : goal.returns
 unfolding no_number_line
 returns c =
-    put_then (bounded (goal.at.returns c).After-out-1) c.put_given-p.ensures (λ _. c.put_bytes.ensures)
+    put_then (bounded (goal.at.returns c).After-put_given-p) c.put_given-p.ensures (λ _. c.put_bytes.ensures)

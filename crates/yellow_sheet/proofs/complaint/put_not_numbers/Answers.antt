@@ -14,4 +14,4 @@ bounded c = search rules
 pub returns : goal.returns
 unfolding not_numbers
 returns c =
-    put_then (bounded (goal.at.returns c).After-out-1) c.put_word-p.ensures (λ l. put_then l c.put_word-q.ensures (λ _. c.put_usage.ensures))
+    put_then (bounded (goal.at.returns c).After-put_word-p) c.put_word-p.ensures (λ l. put_then l c.put_word-q.ensures (λ _. c.put_usage.ensures))

@@ -17,4 +17,4 @@ bounded c = search rules
 pub returns : goal.returns
 unfolding range_line
 returns c =
-    put_then (bounded (goal.at.returns c).After-out-1) c.put_opening-a.ensures (λ l. put_then l c.put_given-b.ensures (λ l. put_then l c.put_bytes-c.ensures (λ l. put_then l (put_as (ap signed (to_z-of_z c.ranges.low)) c.put_signed-d.ensures) (λ l. put_then l c.put_bytes-e.ensures (λ l. put_then l (put_as (ap signed (to_z-of_z c.ranges.high)) c.put_signed-f.ensures) (λ _. c.put_byte.ensures))))))
+    put_then (bounded (goal.at.returns c).After-put_opening-a) c.put_opening-a.ensures (λ l. put_then l c.put_given-b.ensures (λ l. put_then l c.put_bytes-c.ensures (λ l. put_then l (put_as (ap signed (to_z-of_z c.ranges.low)) c.put_signed-d.ensures) (λ l. put_then l c.put_bytes-e.ensures (λ l. put_then l (put_as (ap signed (to_z-of_z c.ranges.high)) c.put_signed-f.ensures) (λ _. c.put_byte.ensures))))))

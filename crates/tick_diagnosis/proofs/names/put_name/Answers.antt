@@ -1,0 +1,20 @@
+-- Each case puts the item of the list that the definition gives it.
+use Rattle.tick_diagnosis.proofs.names.put_name.Goals as goal
+
+pub returns-in-TheClock : goal.returns-in-TheClock
+returns-in-TheClock c = rw c.in-TheClock.is c.put_item.ensures
+
+pub returns-in-MeteredLane : goal.returns-in-MeteredLane
+returns-in-MeteredLane c = rw c.in-MeteredLane.is c.put_item-in-MeteredLane.ensures
+
+pub returns-in-MainlineLane : goal.returns-in-MainlineLane
+returns-in-MainlineLane c = rw c.in-MainlineLane.is c.put_item-in-MainlineLane.ensures
+
+pub returns-in-TheCalls : goal.returns-in-TheCalls
+returns-in-TheCalls c = rw c.in-TheCalls.is c.put_item-in-TheCalls.ensures
+
+pub returns-in-Manual : goal.returns-in-Manual
+returns-in-Manual c = rw c.in-Manual.is c.put_item-in-Manual.ensures
+
+pub returns-in-Communications : goal.returns-in-Communications
+returns-in-Communications c = rw c.in-Communications.is c.put_item-in-Communications.ensures
