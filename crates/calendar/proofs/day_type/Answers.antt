@@ -32,7 +32,7 @@ by_answer : (c : After-is_holiday)
 unfolding day_type_of today_of
 by_answer c =
     rw (
-      dated c.before.before.before.before,
+      sym c.is_date.ensures ∙ not-false _ c.if-not-is_date.false-raw,
       ← c.weekday-weekday.ensures,
       ← c.in_month-today.ensures,
       ← c.yesterday-yesterday.ensures,

@@ -74,3 +74,6 @@ returns c =
     let v = c.args.speed in
     let s = c.args.grade in
     rw (below c, going c, ticks_by v s (in_range c), up_is (9 * tilted s) (some c) (1250000 * nat_abs v))
+
+pub nonzero_div-result : goal.nonzero_div-result
+nonzero_div-result c = rw (below c) (omega (arith, some c))

@@ -1,10 +1,10 @@
 -- The loop's invariant: each sum is that over the lanes so far.
 use Rattle.levels.proofs.SumLaws.{sum_of_none, sum_with_good, sum_with_failed}
 use Rattle.levels.specs.Measures.{totals_of}
-use mathlib.Core.Logic.{⊎_elim}
 use mathlib.Core.Path.{◌≡◌, sym, ◌∙◌}
 use borrow.Author.Rules.{rules}
 use Rattle.levels.proofs.measure.lane_totals.Goals as goal
+use Rattle.levels.proofs.measure.lane_totals.Goals.{then-is_good, else-is_good}
 
 pub loop-j-init : goal.loop-j-init
 loop-j-init c = let x = c.args.c in (search rules, sum_of_none x _ _, sum_of_none x _ _, sum_of_none x _ _, sum_of_none x _ _, sum_of_none x _ _)
@@ -17,24 +17,24 @@ loop-j-preserved c =
     let lane = c.lane_counts-lane.result in
     let at = c.lane_counts-lane.ensures in
     let good = c.is_good.ensures in
-    ⊎_elim
-    (λ w. let g = sym good ∙ w.0.taken in (
-      search rules,
-      rw w.5 (sum_with_good x _ _ j _ i.1 lane at g (search rules)),
-      rw w.6 (sum_with_good x _ _ j _ i.2 lane at g (search rules)),
-      rw w.7 (sum_with_good x _ _ j _ i.3 lane at g (search rules)),
-      rw w.8 (sum_with_good x _ _ j _ i.4 lane at g (search rules)),
-      rw w.9 (sum_with_good x _ _ j _ i.5 lane at g (search rules)),
-    ))
-    (λ w. let f = sym good ∙ w.0.left in (
-      search rules,
-      rw w.1 (sum_with_failed x _ _ j _ i.1 lane at f),
-      rw w.2 (sum_with_failed x _ _ j _ i.2 lane at f),
-      rw w.3 (sum_with_failed x _ _ j _ i.3 lane at f),
-      rw w.4 (sum_with_failed x _ _ j _ i.4 lane at f),
-      rw w.5 (sum_with_failed x _ _ j _ i.5 lane at f),
-    ))
-    c.if-is_good.branch
+    elim c.if-is_good.branch [
+      then-is_good w ↦ (let g = sym good ∙ w.if-is_good.true in (
+        search rules,
+        rw w.lanes-is (sum_with_good x _ _ j _ i.1 lane at g (search rules)),
+        rw w.vehicles-is (sum_with_good x _ _ j _ i.2 lane at g (search rules)),
+        rw w.occupied-is (sum_with_good x _ _ j _ i.3 lane at g (search rules)),
+        rw w.timed-is (sum_with_good x _ _ j _ i.4 lane at g (search rules)),
+        rw w.millis-is (sum_with_good x _ _ j _ i.5 lane at g (search rules)),
+      ))
+    | else-is_good w ↦ (let f = sym good ∙ w.if-is_good.false in (
+        search rules,
+        rw w.lanes-is (sum_with_failed x _ _ j _ i.1 lane at f),
+        rw w.vehicles-is (sum_with_failed x _ _ j _ i.2 lane at f),
+        rw w.occupied-is (sum_with_failed x _ _ j _ i.3 lane at f),
+        rw w.timed-is (sum_with_failed x _ _ j _ i.4 lane at f),
+        rw w.millis-is (sum_with_failed x _ _ j _ i.5 lane at f),
+      ))
+    ]
 
 pub returns : goal.returns
 unfolding totals_of

@@ -14,10 +14,10 @@ pub returns-then-t-eq0 : goal.returns-then-t-eq0
 unfolding measured_of measures_of of_bits
 returns-then-t-eq0 c =
     let t = c.lane_totals-t in
-    let all = with_exact _ _ _ (rw (← t.ensures.0, ne_eqb _ _ c.if-lanes-eq0.false, le-ltb 0 t.result.timed (omega arith), c.flow_of-flow.ensures)) in record { is = all.0; near = all.1.0; exact = all.1.1 }
+    let all = with_exact _ _ _ (rw (← t.ensures.is, ne_eqb _ _ c.if-lanes-eq0.false, le-ltb 0 t.result.timed (omega arith), c.flow_of-flow.ensures)) in record { is = all.0; near = all.1.0; exact = all.1.1 }
 
 pub returns : goal.returns
 unfolding measured_of measures_of
 returns c =
     let t = c.lane_totals-t in
-    let all = with_exact _ _ _ (rw (← t.ensures.0, ne_eqb _ _ c.if-lanes-eq0.false, lt-ltb 0 t.result.timed (omega arith), c.flow_of-flow.ensures, c.quotient.ensures.is)) in record { is = all.0; near = all.1.0; exact = all.1.1 }
+    let all = with_exact _ _ _ (rw (← t.ensures.is, ne_eqb _ _ c.if-lanes-eq0.false, lt-ltb 0 t.result.timed (omega arith), c.flow_of-flow.ensures, c.quotient.ensures.is)) in record { is = all.0; near = all.1.0; exact = all.1.1 }
