@@ -14,6 +14,6 @@ slice_bounds-join_files-end-2 c = sym (length-take-le _ _ (search rules))
 
 pub join_files-requires : goal.join_files-requires
 join_files-requires c =
-    let m : length c.asked_name-second.new.1.1.1.0 ≡ 4096 = search rules in
-    let n : length c.asked_name-first.new.1.1.1.0 ≡ 4096 = search rules in
-    (omega (arith, length-take c.asked_name-first.result.count c.asked_name-first.new.1.1.1.0), omega (arith, length-take c.asked_name-second.result.count c.asked_name-second.new.1.1.1.0))
+    let m : length c.asked_name-second.new.name ≡ 4096 = search rules in
+    let n : length c.asked_name-first.new.name ≡ 4096 = search rules in
+    (omega (arith, length-take c.asked_name-first.result.count c.asked_name-first.new.name), omega (arith, length-take c.asked_name-second.result.count c.asked_name-second.new.name))

@@ -6,4 +6,4 @@ use Rattle.join_plans.proofs.print_joined.Goals as goal
 pub print_remaining-requires : goal.print_remaining-requires
 print_remaining-requires c =
     let pre = c.requires in
-    (⊎_elim (λ z. absurd (c.if-written-ne0.true z)) (λ z. z) (c.write-written.ensures.buffer.1.1 pre.site pre.works_site (search rules)), pre)
+    (⊎_elim (λ z. absurd (c.if-written-ne0.true z)) (λ z. z) (c.write-written.ensures.only pre.site pre.works_site (search rules)), pre)

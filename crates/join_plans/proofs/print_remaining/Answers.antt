@@ -7,7 +7,7 @@ use native.Mathlib.Omega.{arith}
 use Rattle.join_plans.proofs.print_remaining.Goals as goal
 use Rattle.join_plans.proofs.print_remaining.Goals.{After-fill_remaining-n}
 
-within : (c : After-fill_remaining-n) → c.fill_remaining-n.result ≤ length c.fill_remaining-n.new.0
+within : (c : After-fill_remaining-n) → c.fill_remaining-n.result ≤ length c.fill_remaining-n.new.out
 within c = let e = c.fill_remaining-n.ensures in omega (arith, e.0, simp length-append at (ap length e.1))
 
 pub slice_bounds-text-end : goal.slice_bounds-text-end

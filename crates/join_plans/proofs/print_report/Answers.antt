@@ -7,7 +7,7 @@ use native.Mathlib.Omega.{arith}
 use Rattle.join_plans.proofs.print_report.Goals as goal
 use Rattle.join_plans.proofs.print_report.Goals.{After-fill_report-n}
 
-within : (c : After-fill_report-n) → c.fill_report-n.result ≤ length c.fill_report-n.new.0
+within : (c : After-fill_report-n) → c.fill_report-n.result ≤ length c.fill_report-n.new.out
 within c = let e = c.fill_report-n.ensures in omega (arith, e.0, simp length-append at (ap length e.1))
 
 pub slice_bounds-text-end : goal.slice_bounds-text-end

@@ -37,10 +37,18 @@ early-is c =
     ∙ rw c.is_record-whole.ensures
     (ap (λ (t : Timings). answer (is_record c.args.bytes.now t.lanes t.mainline) (ltb c.args.room (t.lanes + 1)) 0) c.requires.1)
 
+early-is_at_else_early_ne0 : (c : Else-early-ne0)
+    → let a = c.args in
+    c.early_refusal-early.result ≡ answer (is_record a.bytes.now (metered_lanes a.site) (mainline_lanes a.site)) (ltb a.room (metered_lanes a.site + 1)) 0
+early-is_at_else_early_ne0 c =
+    c.early_refusal-early.ensures
+    ∙ rw c.is_record-whole.ensures
+    (ap (λ (t : Timings). answer (is_record c.args.bytes.now t.lanes t.mainline) (ltb c.args.room (t.lanes + 1)) 0) c.requires.1)
+
 passed : (c : Else-early-ne0)
     → let a = c.args in
     (is_record a.bytes.now (metered_lanes a.site) (mainline_lanes a.site) ≡ true) × (ltb a.room (metered_lanes a.site + 1) ≡ false)
-passed c = goes_on _ _ (sym (early-is c.before) ∙ c.if-early-ne0.false)
+passed c = goes_on _ _ (sym (early-is_at_else_early_ne0 c) ∙ c.if-early-ne0.false)
 
 input-is : (c : After-input_of-input) → let a = c.args in c.input_of-input.result ≡ input_at a.site a.bytes.now
 unfolding input_at

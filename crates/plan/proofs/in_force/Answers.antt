@@ -5,12 +5,11 @@ use Rattle.plan.specs.InForce.{takes_over, in_force_of}
 use Rattle.plan.specs.Entry.{entry_of}
 use Rattle.plan.specs.declared.Entry.{Entry}
 use Prim.Native.Nat.{◌<◌, ◌-◌}
-use mathlib.Core.Logic.{⊎_elim}
 use mathlib.Core.Path.{◌≡◌, ap, sym, ◌∙◌}
 use native.Mathlib.Omega.{arith}
 use borrow.Author.Rules.{rules}
 use Rattle.plan.proofs.in_force.Goals as goal
-use Rattle.plan.proofs.in_force.Goals.{After-loop-i}
+use Rattle.plan.proofs.in_force.Goals.{After-loop-i, then-takes_over, else-takes_over}
 
 found : (c : After-loop-i)
     → let a = c.args in c.loop-i.best ≡ in_force_of a.rows.now a.count a.day a.minute
@@ -30,12 +29,12 @@ loop-i-preserved c =
     let same : c.takes_over.result ≡ takes_over (entry_of a.rows.now c.loop-i.i) a.day a.minute c.loop-i.best c.loop-i.start =
     c.takes_over.ensures ∙ ap (λ (x : Entry). takes_over x a.day a.minute c.loop-i.best c.loop-i.start) e in (
       search rules,
-      ⊎_elim
-          (λ w. rw (w.1, w.2, ap (λ (x : Entry). x.start) e)
-          (sym (takes a.rows.now a.day a.minute c.loop-i.best c.loop-i.start c.loop-i.i _ l (sym same ∙ w.0.taken)) ∙ c.loop-i.invariant.1))
-          (λ w. rw (w.1, w.2)
-          (sym (skips a.rows.now a.day a.minute c.loop-i.best c.loop-i.start c.loop-i.i _ l (sym same ∙ w.0.left)) ∙ c.loop-i.invariant.1))
-          c.if-takes_over.branch,
+      elim c.if-takes_over.branch [
+        then-takes_over w ↦ rw (w.best-is, w.start-is, ap (λ (x : Entry). x.start) e)
+          (sym (takes a.rows.now a.day a.minute c.loop-i.best c.loop-i.start c.loop-i.i _ l (sym same ∙ w.if-takes_over.true)) ∙ c.loop-i.invariant.1)
+      | else-takes_over w ↦ rw (w.best-is, w.start-is)
+          (sym (skips a.rows.now a.day a.minute c.loop-i.best c.loop-i.start c.loop-i.i _ l (sym same ∙ w.if-takes_over.false)) ∙ c.loop-i.invariant.1)
+      ],
     )
 
 pub returns : goal.returns

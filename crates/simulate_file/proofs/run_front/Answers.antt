@@ -11,4 +11,4 @@ slice_bounds-run_block-end-2 c = sym (length-take-le _ _ (search rules))
 
 pub returns : goal.returns
 returns c =
-    omega (arith, c.holding.ensures, c.requires, c.move_front.auto.0)
+    omega (arith, c.holding.ensures, c.requires, c.move_front.auto.buffer)

@@ -4,8 +4,8 @@ use Rattle.std.proofs.Common.{◌≤◌, length, sym, length-take-le}
 use Rattle.simulated_day.proofs.with_poll.Goals as goal
 use Rattle.simulated_day.proofs.with_poll.Goals.{After-poll-written}
 
-written-fits : (c : After-poll-written) → c.poll-written.result.count ≤ length c.poll-written.new.1.1.0
-written-fits c = rw (c.poll-written.auto.1.1.0, c.poll-written.ensures.answer) (count_fits _ _ _)
+written-fits : (c : After-poll-written) → c.poll-written.result.count ≤ length c.poll-written.new.out
+written-fits c = rw (c.poll-written.auto.out, c.poll-written.ensures.answer) (count_fits _ _ _)
 
 pub slice_bounds-out-end : goal.slice_bounds-out-end
 slice_bounds-out-end c = written-fits (goal.at.slice_bounds-out-end c).After-poll-written

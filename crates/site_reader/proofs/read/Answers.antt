@@ -45,7 +45,7 @@ overflow_mul-end c =
     let f = c.args.src.now in
     let e = c.read_section-l.ensures.found in
     let g = accepted Levels (length f) (words f) c.read_section-h.result.next (sym (ap (λ (x : Found). x.refusal) e) ∙ c.if-l-ne0.false) in
-    omega (arith, c.requires.0.0, words_low f, g.whole, ap (λ (x : Found). x.next) (e ∙ g.is))
+    omega (arith, words_low f, g.whole, ap (λ (x : Found). x.next) (e ∙ g.is))
 
 pub returns-then-end-src : goal.returns-then-end-src
 returns-then-end-src c =

@@ -14,10 +14,10 @@ is-part : (c : After-size-k) → c.size-k.result ≤ length c.args.v.now
 is-part c = omega (arith, c.size-k.ensures, c.requires.0)
 
 pub slice_bounds-store-end-2 : goal.slice_bounds-store-end-2
-slice_bounds-store-end-2 c = sym (length-take-le _ _ (is-part (goal.at.slice_bounds-store-end-2 c).Start))
+slice_bounds-store-end-2 c = sym (length-take-le _ _ (is-part (goal.at.slice_bounds-store-end-2 c).After-size-k))
 
 pub store-requires-2 : goal.store-requires-2
-store-requires-2 c = rw (length-take-le _ _ (is-part (goal.at.store-requires-2 c).Start)) (omega (arith, c.size-k.ensures, c.store.auto.0))
+store-requires-2 c = rw (length-take-le _ _ (is-part (goal.at.store-requires-2 c).After-size-k)) (omega (arith, c.size-k.ensures, c.store.auto.dst))
 
 pub returns : goal.returns
 returns c =

@@ -8,23 +8,23 @@ use Rattle.period.proofs.RangeLaws.{periods_good, good_periods, periods_room}
 use Rattle.state.proofs.StateLaws.{state_good, good_state}
 use mathlib.Core.Path.{◌≡◌, ap, ap₂, sym, ◌∙◌}
 use Rattle.tick.proofs.advance.Goals as goal
-use Rattle.tick.proofs.advance.Goals.{After-after_tick-counted, After-finished, Start}
+use Rattle.tick.proofs.advance.Goals.{After-finished, Start}
 
 passed : (s : Start) → Accepted s.args.site s.args.state s.args.input
 passed s = let a = s.args in accepted a.site a.state a.input s.requires
 
-counted : (c : After-after_tick-counted) → let a = c.args in c.after_tick-counted.result ≡ counted_in a.site a.state a.input
+counted_at_after_finished : (c : After-finished) → let a = c.args in c.after_tick-counted.result ≡ counted_in a.site a.state a.input
 unfolding counted_in
-counted c = c.after_tick-counted.ensures.is ∙ rw c.timings_of-t.ensures
+counted_at_after_finished c = c.after_tick-counted.ensures.is ∙ rw c.timings_of-t.ensures
 
 is : (c : After-finished) → let a = c.args in c.finished.result ≡ accepted_tick a.site a.state a.input
 is c =
     let a = c.args in
     let d : c.decision_of-decided.result ≡ decided_of a.site a.input (counted_in a.site a.state a.input) =
-    c.decision_of-decided.ensures ∙ ap (decided_of a.site a.input) (counted c.before.before.before) in
+    c.decision_of-decided.ensures ∙ ap (decided_of a.site a.input) (counted_at_after_finished c) in
     c.finished.ensures
     ∙ rw c.timings_of-t.ensures
-    (ap₂ (finished_with (timings_of a.site) a.state.group a.input) (counted c.before.before.before) d ∙ sym (by_parts a.site a.state a.input))
+    (ap₂ (finished_with (timings_of a.site) a.state.group a.input) (counted_at_after_finished c) d ∙ sym (by_parts a.site a.state a.input))
 
 pub after_tick-counted-requires : goal.after_tick-counted-requires
 after_tick-counted-requires c =

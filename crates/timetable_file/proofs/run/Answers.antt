@@ -8,7 +8,7 @@ use borrow.Author.Rules.{rules}
 use Rattle.timetable_file.proofs.run.Goals as goal
 use Rattle.timetable_file.proofs.run.Goals.{After-print_whole-count}
 
-printed : (c : After-print_whole-count) → c.print_whole-count.result ≤ length c.print_whole-count.new.1.0
+printed : (c : After-print_whole-count) → c.print_whole-count.result ≤ length c.print_whole-count.new.out
 printed c = let e = c.print_whole-count.ensures in omega (arith, e.0, simp length-append at (ap length e.1))
 
 pub slice_bounds-print_whole-end : goal.slice_bounds-print_whole-end

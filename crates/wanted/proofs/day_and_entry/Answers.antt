@@ -4,4 +4,4 @@ use Rattle.wanted.proofs.day_and_entry.Goals as goal
 
 pub returns : goal.returns
 unfolding day_of entry_in_force
-returns c = (record { day = c.day_and_entry.ensures.day; entry = c.day_and_entry.ensures.named.1.0 })
+returns c = (record { day = c.day_and_entry.ensures.day; entry = c.day_and_entry.ensures.entry })

@@ -8,4 +8,4 @@ use lib.Seq.{take-length}
 use Rattle.yellow_sheet.proofs.argument.Goals as goal
 
 pub returns-then-errno-eq-ENAMETOOLONG : goal.returns-then-errno-eq-ENAMETOOLONG
-returns-then-errno-eq-ENAMETOOLONG c = let word = c.arg-n.new.1.0 in (le_refl (length word), sym (ap (λ (w : List ℕ). length w) (take-length word)))
+returns-then-errno-eq-ENAMETOOLONG c = let word = c.arg-n.new.buf in (le_refl (length word), sym (ap (λ (w : List ℕ). length w) (take-length word)))

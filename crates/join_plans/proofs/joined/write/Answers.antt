@@ -15,5 +15,5 @@ pub returns : goal.returns
 returns c =
     let a = c.args in
     let all = written a.site a.works a.out.now c.join-joined.result
-    (c.join-joined.ensures.is ∙ ap₂ joined_of c.plan_of.ensures c.plan_of-2.ensures) (search rules) c.join-joined.ensures.words.1.0 c.with_list.result c.with_list.ensures _ _
-    c.write.ensures.answer c.write.ensures.buffer.0 c.write.ensures.buffer.1.0 c.write.ensures.buffer.1.1 in record { answer = all.0; buffer = all.1.0; back = all.1.1.0; only = all.1.1.1 }
+    (c.join-joined.ensures.is ∙ ap₂ joined_of c.plan_of.ensures c.plan_of-2.ensures) (search rules) c.join-joined.ensures.could_be_filed c.with_list.result c.with_list.ensures _ _
+    c.write.ensures.answer c.write.ensures.buffer c.write.ensures.back c.write.ensures.room in record { answer = all.0; buffer = all.1.0; back = all.1.1.0; only = all.1.1.1 }

@@ -21,13 +21,23 @@ begun-today : (c : After-in_force-begun)
     c.in_force-begun.result ≡ in_force_of a.plan.now a.entries (day_type_of a.today a.dates.now a.holidays) a.minute
 begun-today c = rw (← c.requires) c.in_force-begun.ensures.is
 
+-- Of a date, today's place is the definition's,
+dated_at_else_begun_ne0 : (c : Else-begun-ne0) → is_date c.args.today ≡ true
+dated_at_else_begun_ne0 c =
+    some_date c.args.today c.args.dates.now c.args.holidays (λ z. c.if-day-eq-NO_DAY.false (c.requires ∙ z))
+
+begun-today_at_else_begun_ne0 : (c : Else-begun-ne0)
+    → let a = c.args in
+    c.in_force-begun.result ≡ in_force_of a.plan.now a.entries (day_type_of a.today a.dates.now a.holidays) a.minute
+begun-today_at_else_begun_ne0 c = rw (← c.requires) c.in_force-begun.ensures.is
+
 -- and where it is none, the way back decides.
 none-begun : (c : Else-begun-ne0)
     → let a = c.args in
     in_force_now (in_force_of a.plan.now a.entries) a.dates.now a.holidays a.today a.minute
     ≡ earlier (in_force_of a.plan.now a.entries) a.dates.now a.holidays a.today days_back
 unfolding in_force_now
-none-begun c = rw (dated c.before.before) (or_second _ _ (sym (begun-today c.before) ∙ c.if-begun-ne0.false))
+none-begun c = rw (dated_at_else_begun_ne0 c) (or_second _ _ (sym (begun-today_at_else_begun_ne0 c) ∙ c.if-begun-ne0.false))
 
 -- The day type looked at is that of the day before,
 type-before : (c : After-day_type-day)
@@ -35,11 +45,17 @@ type-before : (c : After-day_type-day)
     c.day_type-day.result ≡ day_type_of (day_before c.loop-left.date) a.dates.now a.holidays
 type-before c = rw (← c.day_before-date.ensures) c.day_type-day.ensures.is
 
+-- The day type looked at is that of the day before,
+type-before_at_after_in_force_place : (c : After-in_force-place)
+    → let a = c.args in
+    c.day_type-day.result ≡ day_type_of (day_before c.loop-left.date) a.dates.now a.holidays
+type-before_at_after_in_force_place c = rw (← c.day_before-date.ensures) c.day_type-day.ensures.is
+
 -- and the place is the one in force at its end.
 place-before : (c : After-in_force-place)
     → let a = c.args in
     c.in_force-place.result ≡ in_force_of a.plan.now a.entries (day_type_of (day_before c.loop-left.date) a.dates.now a.holidays) last_minute
-place-before c = rw (← type-before c.before.before) c.in_force-place.ensures.is
+place-before c = rw (← type-before_at_after_in_force_place c) c.in_force-place.ensures.is
 
 pub returns-then-day-eq-NO_DAY : goal.returns-then-day-eq-NO_DAY
 unfolding in_force_now

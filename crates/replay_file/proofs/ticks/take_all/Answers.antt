@@ -23,18 +23,18 @@ module _ (c : After-take-taken) where
   all = looped.before.before.before.args.bytes.now
 
   within : looped.loop.from + c.take-taken.result.bytes ≤ length all
-  within = omega (arith, looped.loop.inv.0, length-drop looped.loop.from all, rw (rest all looped.loop.from) at c.take-taken.ensures.adds.1.0)
+  within = omega (arith, looped.loop.inv.0, length-drop looped.loop.from all, rw (rest all looped.loop.from) at c.take-taken.ensures.part)
 
   here : looped.loop.from < length all
   here = search rules
 
   some : 0 < c.take-taken.result.bytes
   some =
-      c.take-taken.ensures.adds.1.1.0 (omega (arith, looped.loop.inv.1, looped.before.before.before.pre))
+      c.take-taken.ensures.goes (omega (arith, looped.loop.inv.1, looped.before.before.before.pre))
       (rw (rest all looped.loop.from) (omega (arith, length-drop looped.loop.from all, here)))
 
-  whole : c.take-taken.result.text ≤ length c.take-taken.new.1.1.1.0
-  whole = rw c.take-taken.auto.1.1.1.0 c.take-taken.ensures.adds.1.1.1.0
+  whole : c.take-taken.result.text ≤ length c.take-taken.new.out
+  whole = rw c.take-taken.auto.out c.take-taken.ensures.fits
 
   fits : Fits w64 (looped.loop.from + c.take-taken.result.bytes)
   fits = search (rules, within)

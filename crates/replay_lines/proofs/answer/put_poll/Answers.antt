@@ -14,8 +14,8 @@ use native.Mathlib.Omega.{arith}
 use Rattle.replay_lines.proofs.answer.put_poll.Goals as goal
 use Rattle.replay_lines.proofs.answer.put_poll.Goals.{After-poll-written}
 
-written-fits : (c : After-poll-written) → c.poll-written.result.count ≤ length c.poll-written.new.1.1.0
-written-fits c = rw (c.poll-written.auto.1.1.0, c.poll-written.ensures.answer) (count_fits _ _ _)
+written-fits : (c : After-poll-written) → c.poll-written.result.count ≤ length c.poll-written.new.out
+written-fits c = rw (c.poll-written.auto.out, c.poll-written.ensures.answer) (count_fits _ _ _)
 
 pub slice_bounds-bytes-end : goal.slice_bounds-bytes-end
 slice_bounds-bytes-end c = written-fits (goal.at.slice_bounds-bytes-end c).After-poll-written
@@ -28,5 +28,5 @@ unfolding polled_text
 returns c =
     let a = c.args in
     let front = written_front (refusal_of a.site a.state) (poll_of a.site a.state) (replicate 64 0) (λ h. omega (arith, poll_most a.site a.state h)) in
-    let written : take c.poll-written.result.count c.poll-written.new.1.1.0 ≡ cond (eqb (refusal_of a.site a.state) 0) (poll_of a.site a.state) [] = rw (c.poll-written.ensures.answer, c.poll-written.ensures.buffer) front in
+    let written : take c.poll-written.result.count c.poll-written.new.out ≡ cond (eqb (refusal_of a.site a.state) 0) (poll_of a.site a.state) [] = rw (c.poll-written.ensures.answer, c.poll-written.ensures.buffer) front in
     rw (← written) c.put_poll.ensures

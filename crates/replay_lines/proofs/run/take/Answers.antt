@@ -33,12 +33,12 @@ module _ (c : After-after_line-run) where
   abbrev after : After-shared_slice_known-in-loop-at-1
   after = c.before.before.before.before.before.before.before.before.before.before
 
-  same_room : length c.put_line-end.new.0 ≡ length after.before.before.before.before.before.before.before.args.out.now
-  same_room = rw c.put_line-end.auto.0 after.before.before.loop.inv.2
+  same_room : length c.put_line-end.new.out ≡ length after.before.before.before.before.before.before.before.args.out.now
+  same_room = rw c.put_line-end.auto.out after.before.before.loop.inv.2
 
   behind_line : Reached after.before.before.before.before.before.before.before.args.site after.before.before.before.before.before.before.before.args.first
       after.before.before.before.before.before.before.before.args.bytes.now after.before.before.before.before.before.before.before.args.out.now
-      (after.before.before.loop.at + 1) c.after_line-run.result c.put_line-end.result c.put_line-end.new.0
+      (after.before.before.loop.at + 1) c.after_line-run.result c.put_line-end.result c.put_line-end.new.out
   unfolding with_scan
   behind_line =
       let w = after.before.before in
@@ -78,10 +78,10 @@ pub returns-then-run : goal.returns-then-run
 returns-then-run c = let r = reached_end _ (behind_line (goal.at.returns-then-run c).After-after_line-run) c.if-run.true in (record { is = r.is; adds = r.adds; part = search rules; goes = λ _ h. h; fits = answer_fits (goal.at.returns-then-run c).After-after_line-run; polled = periods_polled _ })
 
 pub overflow_add-at-in-loop-at : goal.overflow_add-at-in-loop-at
-overflow_add-at-in-loop-at c = fits_word (goal.at.overflow_add-at-in-loop-at c).In-loop-at
+overflow_add-at-in-loop-at c = fits_word (goal.at.overflow_add-at-in-loop-at c).After-shared_slice_known-in-loop-at-1
 
 pub loop-at-smaller : goal.loop-at-smaller
-loop-at-smaller c = omega (arith, below (goal.at.loop-at-smaller c).In-loop-at)
+loop-at-smaller c = omega (arith, below (goal.at.loop-at-smaller c).After-shared_slice_known-in-loop-at-1)
 
 pub loop-at-preserved : goal.loop-at-preserved
 loop-at-preserved c =

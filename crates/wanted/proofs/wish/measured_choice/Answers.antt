@@ -5,4 +5,4 @@ pub returns-in-NoGoodLane : goal.returns-in-NoGoodLane
 returns-in-NoGoodLane c = rw c.in-NoGoodLane.is
 
 pub returns-in-Over : goal.returns-in-Over
-returns-in-Over c = rw (c.decreases.given.1, ← c.deciding.ensures.is) c.level_choice.ensures
+returns-in-Over c = rw (c.in-Over.is, ← c.deciding.ensures.is) c.level_choice.ensures
