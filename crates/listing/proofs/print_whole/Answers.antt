@@ -11,5 +11,5 @@ returns c =
     let p = c.print-written.ensures in
     let a = c.args in
     let text = text_of a.file.now in
-    let refusal = ap (λ (w : Written). w.refusal) p.0 in
-    let o = accepted text a.out.now (had_room text a.out.now (sym refusal ∙ p.1.1 (search rules))) in (record { count = ap (λ (w : Written). w.count) (p.0 ∙ sym o.answers); buffer = p.1.0 ∙ sym o.leaves })
+    let refusal = ap (λ (w : Written). w.refusal) p.answer in
+    let o = accepted text a.out.now (had_room text a.out.now (sym refusal ∙ p.room (search rules))) in (record { count = ap (λ (w : Written). w.count) (p.answer ∙ sym o.answers); buffer = p.buffer ∙ sym o.leaves })

@@ -20,13 +20,13 @@ has_room : (c : After-size-n) → c.size-n.result ≤ length c.args.v.now
 has_room c =
     omega (arith, size_is c, fits c.args.section (get_or (words c.args.file.now) c.args.q 0) c.requires.1, c.requires.0)
 
+size_is_at_after_load : (c : After-load) → let a = c.args in c.size-n.result ≡ size_of a.section (get_or (words a.file.now) a.q 0)
+size_is_at_after_load c = c.size-n.ensures ∙ ap (size_of c.args.section) c.word.ensures
+
 -- The count is allowed, so that v has room for the section.
 has_room_at_after_load : (c : After-load) → c.size-n.result ≤ length c.args.v.now
 has_room_at_after_load c =
-    omega (arith, size_is c, fits c.args.section (get_or (words c.args.file.now) c.args.q 0) c.requires.1, c.requires.0)
-
-size_is_at_after_load : (c : After-load) → let a = c.args in c.size-n.result ≡ size_of a.section (get_or (words a.file.now) a.q 0)
-size_is_at_after_load c = c.size-n.ensures ∙ ap (size_of c.args.section) c.word.ensures
+    omega (arith, size_is_at_after_load c, fits c.args.section (get_or (words c.args.file.now) c.args.q 0) c.requires.1, c.requires.0)
 
 loaded : (c : After-load)
     → let a = c.args in
