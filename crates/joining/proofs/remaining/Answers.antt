@@ -6,12 +6,12 @@ use Rattle.joining.specs.Joining.{entries_of, covering_of, kept}
 use Rattle.plan.specs.declared.Entry.{Entry}
 use Rattle.plan.specs.Entry.{entry_of}
 use Prim.Native.Nat.{◌-◌}
-use mathlib.Core.Logic.{⊎_elim}
 use mathlib.Core.Path.{◌≡◌, ap, sym, ◌∙◌}
 use native.Mathlib.Omega.{arith}
 use lib.ListN.{length}
 use borrow.Author.Rules.{rules}
 use Rattle.joining.proofs.remaining.Goals as goal
+use Rattle.joining.proofs.remaining.Goals.{then-covering-eq0, else-covering-eq0}
 
 pub loop-i-init : goal.loop-i-init
 loop-i-init c = let n = c.args.first.count in let e : n - 0 ≡ n = omega arith in rw e (search rules, (search rules, omega arith))
@@ -24,10 +24,10 @@ loop-i-preserved c =
     let same : c.covering.result ≡ covering_of a.second.rows e a.second.count =
     c.covering.ensures.is ∙ ap (λ (x : Entry). covering_of a.second.rows x a.second.count) c.entry_at-e.ensures in (
       search rules,
-      ⊎_elim
-          (λ w. let left = (rw (one, not_covered a.second.rows e a.second.count (sym same ∙ w.0.taken)) at c.loop-i.invariant.1.1) in rw w.1 (omega (arith, c.loop-i.invariant.1.0), omega arith))
-          (λ w. let left = (rw (one, covered a.second.rows e a.second.count (λ z. w.0.left (same ∙ z))) at c.loop-i.invariant.1.1) in rw w.1 (omega (arith, c.loop-i.invariant.1.0), left))
-          c.if-covering-eq0.branch,
+      elim c.if-covering-eq0.branch [
+        then-covering-eq0 w ↦ (let left = (rw (one, not_covered a.second.rows e a.second.count (sym same ∙ w.if-covering-eq0.true)) at c.loop-i.invariant.1.1) in rw w.many-is (omega (arith, c.loop-i.invariant.1.0), omega arith))
+      | else-covering-eq0 w ↦ (let left = (rw (one, covered a.second.rows e a.second.count (λ z. w.if-covering-eq0.false (same ∙ z))) at c.loop-i.invariant.1.1) in rw w.many-is (omega (arith, c.loop-i.invariant.1.0), left))
+      ],
     )
 
 pub returns : goal.returns

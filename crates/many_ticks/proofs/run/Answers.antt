@@ -95,18 +95,21 @@ returns c =
     let out = a.out.now in
     let records = records_at a.site a.records.now in
     let is = call_is a.site a.state a.records.now (length out) (site-good (goal.at.returns c).Else-spoilt) (sym (state_is (goal.at.returns c).After-spoilt-2) ∙ c.if-spoilt-2.false) in
-    let count : c.run_all.result.accepted ≡ (run_from a.site a.state (length out) records).accepted = ap (λ (q : Ran). q.accepted) r.0 in
+    let count : c.run_all.result.accepted ≡ (run_from a.site a.state (length out) records).accepted = ap (λ (q : Ran). q.accepted) r.is in
     let long : length (run_from a.site a.state (length out) records).laid ≡ c.run_all.result.accepted * (metered_lanes a.site + 1) =
-    laid_counted a.site records a.state (length out) ∙ ap (λ (k : ℕ). k * (metered_lanes a.site + 1)) (sym count) in (
-      r.0 ∙ ap ran_of (sym is),
-      (
-        r.1.1 ∙ ap (λ (run : Run). output_of run out) (sym is),
-        (
-          (λ _. r.1.0),
-          (
-            (ap (λ (run : Run). length run.laid) is ∙ long, rw long at (laid_fits a.site records a.state (length out))),
-            (room a.site a.state a.records.now out _ (r.0 ∙ ap ran_of (sym is)), laws a.site a.state a.records.now out),
-          ),
-        ),
-      ),
-    )
+    laid_counted a.site records a.state (length out) ∙ ap (λ (k : ℕ). k * (metered_lanes a.site + 1)) (sym count) in
+    let is_whole = r.is ∙ ap ran_of (sym is) in
+    let all = laws a.site a.state a.records.now out in
+    record {
+      is = is_whole;
+      output = r.output ∙ ap (λ (run : Run). output_of run out) (sym is);
+      kept = λ _. r.kept;
+      long = (ap (λ (run : Run). length run.laid) is ∙ long, rw long at (laid_fits a.site records a.state (length out)));
+      room = room a.site a.state a.records.now out _ is_whole;
+      singly = all.0;
+      blocks = all.1.0;
+      waits = all.1.1.0;
+      clears = all.1.1.1.0;
+      serves = all.1.1.1.1.0;
+      holds = all.1.1.1.1.1;
+    }

@@ -16,24 +16,22 @@ use Rattle.tick_record.specs.Record.{record_size}
 use Rattle.tick_record.proofs.RecordLaws.{some_record}
 use Rattle.many_ticks.specs.Many.{input_at, ticked_at, shown_bytes, record_refusal}
 use Rattle.many_ticks.proofs.PartLaws.{whole_or_cut}
-use Rattle.many_ticks.proofs.StepLaws.{taken}
+use Rattle.many_ticks.proofs.StepLaws.{Taken, taken}
 use Rattle.many_ticks.proofs.KnownLaws.{holds_nothing, holds_counted, holds_accepted}
 use Rattle.many_ticks.proofs.RunLaws.{left_at_start, left_turn, left_ends, at_refused, at_end}
-use Rattle.many_ticks.proofs.run_all.Invariants.{next_at_else_checked_ne0, part-is_at_else_checked_ne0, none-refuses, known}
+use Rattle.site.specs.declared.Site.{Site}
 use Rattle.many_ticks.proofs.run_all.Goals as goal
-use Rattle.many_ticks.proofs.run_all.Goals.{After-check_record-checked, At-loop-from, Else-checked-ne0}
+use Rattle.many_ticks.proofs.run_all.Goals.{After-check_record-checked, Else-checked-ne0}
 
--- The next record, whole or cut short, at a turn of the loop.
-abbrev next_at_after_check_record_checked : At-loop-from → List ℕ
-next_at_after_check_record_checked l =
-    let a = l.before.before.before.before.before.before.before.args in
-    take (record_size (metered_lanes a.site) (mainline_lanes a.site)) (drop l.loop.from a.records.now)
+-- The next record, whole or cut short, of those from a place on.
+abbrev next : Site → List ℕ → ℕ → List ℕ
+next x records from = take (record_size (metered_lanes x) (mainline_lanes x)) (drop from records)
 
 -- It is the part that is taken,
-part-is_at_after_check_record_checked : (c : After-check_record-checked)
+part_is : (c : After-check_record-checked)
     → let a = c.args in
-    take (c.end_of-end.result - c.loop-from.from) (drop c.loop-from.from a.records.now) ≡ next_at_after_check_record_checked c
-part-is_at_after_check_record_checked c =
+    take (c.end_of-end.result - c.loop-from.from) (drop c.loop-from.from a.records.now) ≡ next a.site a.records.now c.loop-from.from
+part_is c =
     let a = c.args in
     let size = record_size (metered_lanes a.site) (mainline_lanes a.site) in
     let rest = drop c.loop-from.from a.records.now in
@@ -43,23 +41,56 @@ part-is_at_after_check_record_checked c =
 -- its refusal is the definition's,
 refusal_is : (c : After-check_record-checked)
     → let a = c.args in
-    c.check_record-checked.result.refusal ≡ record_refusal a.site c.loop-from.state (length a.out.now - c.loop-from.at) (next_at_after_check_record_checked c)
+    c.check_record-checked.result.refusal ≡ record_refusal a.site c.loop-from.state (length a.out.now - c.loop-from.at) (next a.site a.records.now c.loop-from.from)
 refusal_is c =
     let a = c.args in
     let v = c.loop-from.invariant.3 in
     let room : length c.loop-from.out - c.loop-from.at ≡ length a.out.now - c.loop-from.at = ap (λ (k : ℕ). k - c.loop-from.at) v.long in
-    c.check_record-checked.ensures.refusal c.loop-from.state v.good ∙ ap₂ (record_refusal a.site c.loop-from.state) room (part-is_at_after_check_record_checked c)
+    c.check_record-checked.ensures.refusal c.loop-from.state v.good ∙ ap₂ (record_refusal a.site c.loop-from.state) room (part_is c)
+
+-- both also behind the test,
+part_is_accepted : (c : Else-checked-ne0)
+    → let a = c.args in
+    take (c.end_of-end.result - c.loop-from.from) (drop c.loop-from.from a.records.now) ≡ next a.site a.records.now c.loop-from.from
+part_is_accepted c =
+    let a = c.args in
+    let size = record_size (metered_lanes a.site) (mainline_lanes a.site) in
+    let rest = drop c.loop-from.from a.records.now in
+    let e : c.end_of-end.result - c.loop-from.from ≡ min size (length rest) = omega (arith, c.end_of-end.ensures, c.loop-from.invariant.0, length-drop c.loop-from.from a.records.now) in
+    ap (λ (k : ℕ). take k rest) e ∙ whole_or_cut size rest
+
+refusal_is_accepted : (c : Else-checked-ne0)
+    → let a = c.args in
+    c.check_record-checked.result.refusal ≡ record_refusal a.site c.loop-from.state (length a.out.now - c.loop-from.at) (next a.site a.records.now c.loop-from.from)
+refusal_is_accepted c =
+    let a = c.args in
+    let v = c.loop-from.invariant.3 in
+    let room : length c.loop-from.out - c.loop-from.at ≡ length a.out.now - c.loop-from.at = ap (λ (k : ℕ). k - c.loop-from.at) v.long in
+    c.check_record-checked.ensures.refusal c.loop-from.state v.good ∙ ap₂ (record_refusal a.site c.loop-from.state) room (part_is_accepted c)
+
+-- and where it is accepted, it is whole, its tick is the definition's and so are the state and the bytes that this leaves.
+none_refuses : (c : Else-checked-ne0)
+    → let a = c.args in
+    record_refusal a.site c.loop-from.state (length a.out.now - c.loop-from.at) (next a.site a.records.now c.loop-from.from) ≡ 0
+none_refuses c = sym (refusal_is_accepted c) ∙ c.if-checked-ne0.false
+
+known : (c : Else-checked-ne0)
+    → let a = c.args in
+    Taken a.site c.loop-from.state (next a.site a.records.now c.loop-from.from) (length a.out.now - c.loop-from.at)
+known c =
+    let a = c.args in
+    taken a.site c.loop-from.state (next a.site a.records.now c.loop-from.from) (length a.out.now - c.loop-from.at) (none_refuses c)
 
 input-is : (c : Else-checked-ne0)
     → let a = c.args in
-    c.check_record-checked.result.input ≡ input_at a.site (next_at_else_checked_ne0 c)
+    c.check_record-checked.result.input ≡ input_at a.site (next a.site a.records.now c.loop-from.from)
 input-is c =
     let a = c.args in
-    c.check_record-checked.ensures.input c.if-checked-ne0.false ∙ ap (input_at a.site) (part-is_at_else_checked_ne0 c)
+    c.check_record-checked.ensures.input c.if-checked-ne0.false ∙ ap (input_at a.site) (part_is_accepted c)
 
 ticked-is : (c : Else-checked-ne0)
     → let a = c.args in
-    accepted_tick a.site c.loop-from.state c.check_record-checked.result.input ≡ ticked_at a.site c.loop-from.state (next_at_else_checked_ne0 c)
+    accepted_tick a.site c.loop-from.state c.check_record-checked.result.input ≡ ticked_at a.site c.loop-from.state (next a.site a.records.now c.loop-from.from)
 ticked-is c =
     let a = c.args in
     ap (accepted_tick a.site c.loop-from.state) (input-is c) ∙ sym (known c).is
@@ -163,7 +194,7 @@ loop-from-preserved c =
       v.1,
       v.2,
       left_turn a.site a.first a.records.now a.out.now c.loop-from.state c.loop-from.from c.loop-from.at c.loop-from.accepted c.loop-from.out v.3
-          c.loop-from-test.true (none-refuses (goal.at.loop-from-preserved c).Else-checked-ne0) c.accept-state.result (c.accept-state.ensures.state ∙ ap (λ (q : Ticked). q.state) (ticked-is (goal.at.loop-from-preserved c).Else-checked-ne0))
+          c.loop-from-test.true (none_refuses (goal.at.loop-from-preserved c).Else-checked-ne0) c.accept-state.result (c.accept-state.ensures.state ∙ ap (λ (q : Ticked). q.state) (ticked-is (goal.at.loop-from-preserved c).Else-checked-ne0))
           c.end_of-end.result (end_is (goal.at.loop-from-preserved c).Else-checked-ne0) (c.timings_of-t.result.lanes + 1) v.1 c.accept-state.new.out
           (c.accept-state.ensures.laid ∙ ap (λ (q : Ticked). sets lent 0 (shown_bytes (metered_lanes a.site) q.shown)) (ticked-is (goal.at.loop-from-preserved c).Else-checked-ne0)),
       v.4,

@@ -8,11 +8,11 @@ use Rattle.plan.specs.declared.Entry.{Entry}
 use Rattle.plan.specs.Entry.{entry_of}
 use Prim.Native.Nat.{◌-◌}
 use mathlib.Core.List.{[]}
-use mathlib.Core.Logic.{⊎_elim}
 use mathlib.Core.Path.{◌≡◌, refl, ap, sym, ◌∙◌}
 use native.Mathlib.Omega.{arith}
 use borrow.Author.Rules.{rules}
 use Rattle.joining.proofs.filling.keep.Goals as goal
+use Rattle.joining.proofs.filling.keep.Goals.{then-covering-eq0, else-covering-eq0}
 
 pub loop-i-init : goal.loop-i-init
 loop-i-init c =
@@ -31,11 +31,11 @@ loop-i-preserved c =
     let same : c.covering.result ≡ covering_of a.second.now e a.others =
     c.covering.ensures.is ∙ ap (λ (x : Entry). covering_of a.second.now x a.others) c.entry_at-e.ensures in (
       search rules,
-      ⊎_elim
-          (λ w. let l = w.2 ∙ w.1.ensures ∙ ap (λ (x : Entry). with_entry c.loop-i.list x) c.entry_at-e.ensures in
-          (rw (l, one_more_entry c.loop-i.list e) (omega (arith, c.loop-i.invariant.1.0)), rw l (rw (one, not_covered a.second.now e a.others (sym same ∙ w.0.taken)) at c.loop-i.invariant.1.1)))
-          (λ w. rw w.1 (omega (arith, c.loop-i.invariant.1.0), rw (one, covered a.second.now e a.others (λ z. w.0.left (same ∙ z))) at c.loop-i.invariant.1.1))
-          c.if-covering-eq0.branch,
+      elim c.if-covering-eq0.branch [
+        then-covering-eq0 w ↦ (let l = w.list-is ∙ w.with_entry-list.ensures ∙ ap (λ (x : Entry). with_entry c.loop-i.list x) c.entry_at-e.ensures in
+          (rw (l, one_more_entry c.loop-i.list e) (omega (arith, c.loop-i.invariant.1.0)), rw l (rw (one, not_covered a.second.now e a.others (sym same ∙ w.if-covering-eq0.true)) at c.loop-i.invariant.1.1)))
+      | else-covering-eq0 w ↦ rw w.list-is (omega (arith, c.loop-i.invariant.1.0), rw (one, covered a.second.now e a.others (λ z. w.if-covering-eq0.false (same ∙ z))) at c.loop-i.invariant.1.1)
+      ],
     )
 
 pub returns : goal.returns

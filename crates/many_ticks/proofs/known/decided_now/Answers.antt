@@ -11,4 +11,4 @@ returns-then-is_known c =
     let holds = c.requires.2 is.0 in (record { decided = sym (holds is.1 a.input is.2 a.counted refl refl); holds = holds; closing = λ z. absurd (is.0 z) })
 
 pub returns : goal.returns
-returns c = let e = c.decided_anew.ensures in (record { decided = e.1.0; holds = e.1.1; closing = λ z. e.0 ∙ rw z })
+returns c = let e = c.decided_anew.ensures in (record { decided = e.decided; holds = e.holds; closing = λ z. e.kept ∙ rw z })

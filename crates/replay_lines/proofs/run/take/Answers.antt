@@ -16,39 +16,29 @@ use Rattle.replay_lines.proofs.ReplayLaws.{Reached, reached_start, reached_in, r
 use Rattle.replay_lines.proofs.LengthLaws.{fits_in}
 use Rattle.replay_lines.proofs.PollLaws.{periods_polled}
 use Rattle.replay_lines.proofs.run.take.Goals as goal
-use Rattle.replay_lines.proofs.run.take.Goals.{After-after_line-run, After-shared_slice_known-in-loop-at-1}
-
--- Before a byte is taken.
-below : (c : After-shared_slice_known-in-loop-at-1) → c.loop-at.at < length c.args.bytes.now
-below c = search rules
-
-fits_word : (c : After-shared_slice_known-in-loop-at-1) → Fits w64 (c.loop-at.at + 1)
-fits_word c = search rules
-
-short : (c : After-shared_slice_known-in-loop-at-1) → length c.args.out.now < farthest
-short c = search rules
+use Rattle.replay_lines.proofs.run.take.Goals.{After-after_line-run}
 
 -- Behind a line.
 module _ (c : After-after_line-run) where
-  abbrev after : After-shared_slice_known-in-loop-at-1
-  after = c.before.before.before.before.before.before.before.before.before.before
+  below_line : c.loop-at.at < length c.args.bytes.now
+  below_line = search rules
 
-  same_room : length c.put_line-end.new.out ≡ length after.before.before.before.before.before.before.before.args.out.now
-  same_room = rw c.put_line-end.auto.out after.before.before.loop.inv.2
+  short_line : length c.args.out.now < farthest
+  short_line = search rules
 
-  behind_line : Reached after.before.before.before.before.before.before.before.args.site after.before.before.before.before.before.before.before.args.first
-      after.before.before.before.before.before.before.before.args.bytes.now after.before.before.before.before.before.before.before.args.out.now
-      (after.before.before.loop.at + 1) c.after_line-run.result c.put_line-end.result c.put_line-end.new.out
+  same_room : length c.put_line-end.new.out ≡ length c.args.out.now
+  same_room = rw c.put_line-end.auto.out c.loop-at.invariant.2
+
+  behind_line : Reached c.args.site c.args.first c.args.bytes.now c.args.out.now (c.loop-at.at + 1) c.after_line-run.result c.put_line-end.result c.put_line-end.new.out
   unfolding with_scan
   behind_line =
-      let w = after.before.before in
-      let a = after.before.before.before.before.before.before.before.args in
+      let a = c.args in
       reached_same a.site (rw (c.line_of-line.ensures, c.with_scan-whole.ensures) at c.after_line-run.ensures)
-      (reached_line a.site w.loop.inv.4 (below after) w.loop.inv.1 c.if-b-ne10.false (short after) (rw (c.line_of-line.ensures, c.with_scan-whole.ensures) at c.put_line-end.ensures.is))
+      (reached_line a.site c.loop-at.invariant.4 below_line c.loop-at.invariant.1 c.if-b-ne10.false short_line (rw (c.line_of-line.ensures, c.with_scan-whole.ensures) at c.put_line-end.ensures.is))
 
-  answer_fits : c.put_line-end.result ≤ length after.before.before.before.before.before.before.before.args.out.now
+  answer_fits : c.put_line-end.result ≤ length c.args.out.now
   answer_fits =
-      rw after.before.before.loop.inv.2 at (fits_in _ c.put_line-end.ensures.is c.put_line-end.ensures.short (sym c.has_room.ensures ∙ not-false _ c.if-not-has_room.false-raw))
+      rw c.loop-at.invariant.2 at (fits_in _ c.put_line-end.ensures.is c.put_line-end.ensures.short (sym c.has_room.ensures ∙ not-false _ c.if-not-has_room.false-raw))
 
   line_begins : with_scan c.after_line-run.result line_start false ≡ c.after_line-run.result
   line_begins = rw c.after_line-run.ensures (fresh_line _ _)
@@ -78,15 +68,15 @@ pub returns-then-run : goal.returns-then-run
 returns-then-run c = let r = reached_end _ (behind_line (goal.at.returns-then-run c).After-after_line-run) c.if-run.true in (record { is = r.is; adds = r.adds; part = search rules; goes = λ _ h. h; fits = answer_fits (goal.at.returns-then-run c).After-after_line-run; polled = periods_polled _ })
 
 pub overflow_add-at-in-loop-at : goal.overflow_add-at-in-loop-at
-overflow_add-at-in-loop-at c = fits_word (goal.at.overflow_add-at-in-loop-at c).After-shared_slice_known-in-loop-at-1
+overflow_add-at-in-loop-at c = search rules
 
 pub loop-at-smaller : goal.loop-at-smaller
-loop-at-smaller c = omega (arith, below (goal.at.loop-at-smaller c).After-shared_slice_known-in-loop-at-1)
+loop-at-smaller c = omega arith
 
 pub loop-at-preserved : goal.loop-at-preserved
 loop-at-preserved c =
     (
-      omega (arith, below (after (goal.at.loop-at-preserved c).After-after_line-run)),
+      omega (arith, below_line (goal.at.loop-at-preserved c).After-after_line-run),
       c.if-run.false,
       same_room (goal.at.loop-at-preserved c).After-after_line-run,
       λ z. absurd (omega (arith, z)),
