@@ -199,7 +199,7 @@ loop-from-preserved c =
           (c.accept-state.ensures.laid ∙ ap (λ (q : Ticked). sets lent 0 (shown_bytes (metered_lanes a.site) q.shown)) (ticked-is (goal.at.loop-from-preserved c).Else-checked-ne0)),
       v.4,
       rw c.accept-state.ensures.state
-          (holds_accepted a.site c.decided_now-known.result c.loop-from.state c.check_record-checked.result.input (λ z. holds.1 (ap (λ (p : Periods). p.ticks) is ∙ z)) (rw is at holds.0)),
+          (holds_accepted a.site c.decided_now-known.result c.loop-from.state c.check_record-checked.result.input (λ z. c.decided_now-known.ensures.closing (ap (λ (p : Periods). p.ticks) is ∙ z)) (rw is at holds)),
     )
 
 pub shape_of-out : goal.shape_of-out
