@@ -1,7 +1,6 @@
 // The timetable program over a file of any name.
 #![tactic(auto)]
 
-
 // Prints the timetable of the site file of that name, or the line that says why it is refused, and
 // explains that on a file for errors. A file that cannot be read, or that the user named and that is
 // absent, is reported on standard error, and nothing is printed.

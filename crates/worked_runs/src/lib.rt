@@ -2,4 +2,3 @@
 // marks, Waiting those of the waiting bound; Preemption, NearestCycle, PastMidnight, Bus and
 // MovedHolidays state those of document 02. There is no code here.
 #![tactic(auto)]
-

@@ -34,6 +34,11 @@ wanted_now-requires c = tenth_good _ (in_range (goal.at.wanted_now-requires c).E
 pub returns : goal.returns
 unfolding decided_of decision_of
 returns c =
-    let a = c.args in (record { is = rw (← c.refusal_of-refusal.ensures, c.if-refusal-ne0.false, c.wanted_now.ensures); day = (λ _. rw c.wanted_now.ensures (day_is a.site a.clock (in_range (goal.at.returns c).Else-refusal-ne0).1.1)); entry = (λ _. rw c.wanted_now.ensures (entry_is a.site a.clock (in_range (goal.at.returns c).Else-refusal-ne0).0 (in_range (goal.at.returns c).Else-refusal-ne0).1.1)); levelled = (λ _. rw c.wanted_now.ensures
-              (levelled a.site a.clock a.manual a.centre a.state.periods (metered_lanes a.site)
-              (timings_good a.site (in_range (goal.at.returns c).Else-refusal-ne0).0).mainline_most (state_good a.state (shape_of a.site) (in_range (goal.at.returns c).Else-refusal-ne0).1.0).periods)) })
+    let a = c.args in (record {
+      is = rw (← c.refusal_of-refusal.ensures, c.if-refusal-ne0.false, c.wanted_now.ensures);
+      day = (λ _. rw c.wanted_now.ensures (day_is a.site a.clock (in_range (goal.at.returns c).Else-refusal-ne0).1.1));
+      entry = (λ _. rw c.wanted_now.ensures (entry_is a.site a.clock (in_range (goal.at.returns c).Else-refusal-ne0).0 (in_range (goal.at.returns c).Else-refusal-ne0).1.1));
+      levelled = (λ _. rw c.wanted_now.ensures
+          (levelled a.site a.clock a.manual a.centre a.state.periods (metered_lanes a.site)
+          (timings_good a.site (in_range (goal.at.returns c).Else-refusal-ne0).0).mainline_most (state_good a.state (shape_of a.site) (in_range (goal.at.returns c).Else-refusal-ne0).1.0).periods));
+    })

@@ -10,12 +10,11 @@ pub loop-day-init : goal.loop-day-init
 loop-day-init c = (search rules, search rules, λ r d g. g)
 
 pub loop-day-preserved : goal.loop-day-preserved
-loop-day-preserved c =
-    (
-      put_within c.put_day-p.ensures,
-      search rules,
-      put_turn (search rules) c.put_day-p.ensures (joined_turn (day_text _) day_types c.loop-day.day (search rules)) c.loop-day.invariant.2,
-    )
+loop-day-preserved c = (
+  put_within c.put_day-p.ensures,
+  search rules,
+  put_turn (search rules) c.put_day-p.ensures (joined_turn (day_text _) day_types c.loop-day.day (search rules)) c.loop-day.invariant.2,
+)
 
 pub returns : goal.returns
 returns c =

@@ -25,8 +25,8 @@ loop-i-preserved c =
     c.covering.ensures.is ∙ ap (λ (x : Entry). covering_of a.second.rows x a.second.count) c.entry_at-e.ensures in (
       search rules,
       elim c.if-covering-eq0.branch [
-        then-covering-eq0 w ↦ (let left = (rw (one, not_covered a.second.rows e a.second.count (sym same ∙ w.if-covering-eq0.true)) at c.loop-i.invariant.1.1) in rw w.many-is (omega (arith, c.loop-i.invariant.1.0), omega arith))
-      | else-covering-eq0 w ↦ (let left = (rw (one, covered a.second.rows e a.second.count (λ z. w.if-covering-eq0.false (same ∙ z))) at c.loop-i.invariant.1.1) in rw w.many-is (omega (arith, c.loop-i.invariant.1.0), left))
+        | then-covering-eq0 w ↦ (let left = (rw (one, not_covered a.second.rows e a.second.count (sym same ∙ w.if-covering-eq0.true)) at c.loop-i.invariant.1.1) in rw w.many-is (omega (arith, c.loop-i.invariant.1.0), omega arith))
+        | else-covering-eq0 w ↦ (let left = (rw (one, covered a.second.rows e a.second.count (λ z. w.if-covering-eq0.false (same ∙ z))) at c.loop-i.invariant.1.1) in rw w.many-is (omega (arith, c.loop-i.invariant.1.0), left))
       ],
     )
 

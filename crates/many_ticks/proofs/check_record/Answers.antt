@@ -58,10 +58,13 @@ pub returns-then-early-ne0 : goal.returns-then-early-ne0
 returns-then-early-ne0 c =
     let a = c.args in
     let whole = is_record a.bytes.now (metered_lanes a.site) (mainline_lanes a.site) in
-    let small = ltb a.room (metered_lanes a.site + 1) in (record { refusal = (λ q good. c.not_read.ensures
+    let small = ltb a.room (metered_lanes a.site + 1) in (record {
+      refusal = (λ q good. c.not_read.ensures
           ∙ early-is (goal.at.returns-then-early-ne0 c).After-early_refusal-early
           ∙ stops whole small (input_refusal (shape_of a.site) (input_at a.site a.bytes.now)) (λ z. c.if-early-ne0.true (early-is (goal.at.returns-then-early-ne0 c).After-early_refusal-early ∙ z))
-          ∙ sym (record_refusal_lem a.site q a.bytes.now c.requires.0 good a.room)); input = λ z. absurd (c.if-early-ne0.true (sym c.not_read.ensures ∙ z)) })
+          ∙ sym (record_refusal_lem a.site q a.bytes.now c.requires.0 good a.room));
+      input = λ z. absurd (c.if-early-ne0.true (sym c.not_read.ensures ∙ z));
+    })
 
 pub input_of-input-requires : goal.input_of-input-requires
 input_of-input-requires c =

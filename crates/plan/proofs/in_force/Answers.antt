@@ -30,10 +30,10 @@ loop-i-preserved c =
     c.takes_over.ensures ∙ ap (λ (x : Entry). takes_over x a.day a.minute c.loop-i.best c.loop-i.start) e in (
       search rules,
       elim c.if-takes_over.branch [
-        then-takes_over w ↦ rw (w.best-is, w.start-is, ap (λ (x : Entry). x.start) e)
-          (sym (takes a.rows.now a.day a.minute c.loop-i.best c.loop-i.start c.loop-i.i _ l (sym same ∙ w.if-takes_over.true)) ∙ c.loop-i.invariant.1)
-      | else-takes_over w ↦ rw (w.best-is, w.start-is)
-          (sym (skips a.rows.now a.day a.minute c.loop-i.best c.loop-i.start c.loop-i.i _ l (sym same ∙ w.if-takes_over.false)) ∙ c.loop-i.invariant.1)
+        | then-takes_over w ↦ rw (w.best-is, w.start-is, ap (λ (x : Entry). x.start) e)
+            (sym (takes a.rows.now a.day a.minute c.loop-i.best c.loop-i.start c.loop-i.i _ l (sym same ∙ w.if-takes_over.true)) ∙ c.loop-i.invariant.1)
+        | else-takes_over w ↦ rw (w.best-is, w.start-is)
+            (sym (skips a.rows.now a.day a.minute c.loop-i.best c.loop-i.start c.loop-i.i _ l (sym same ∙ w.if-takes_over.false)) ∙ c.loop-i.invariant.1)
       ],
     )
 

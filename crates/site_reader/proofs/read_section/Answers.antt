@@ -98,13 +98,19 @@ returns-then-total-at c =
 
 pub returns-then-not-allowed : goal.returns-then-not-allowed
 returns-then-not-allowed c =
-    let a = c.args in (record { found = c.not_found-then-not-allowed.ensures
-          ∙ sym (bad_count a.section _ (words a.src.now) a.at (omega (arith, words_high a.src.now)) _ c.word-count.ensures (sym c.allowed.ensures ∙ not-true _ c.if-not-allowed.true-raw)); filled = λ z. absurd (never _ _ _ c.not_found-then-not-allowed.ensures (search rules) z) })
+    let a = c.args in (record {
+      found = c.not_found-then-not-allowed.ensures
+          ∙ sym (bad_count a.section _ (words a.src.now) a.at (omega (arith, words_high a.src.now)) _ c.word-count.ensures (sym c.allowed.ensures ∙ not-true _ c.if-not-allowed.true-raw));
+      filled = λ z. absurd (never _ _ _ c.not_found-then-not-allowed.ensures (search rules) z);
+    })
 
 pub returns-then-total-at-2 : goal.returns-then-total-at-2
 returns-then-total-at-2 c =
-    let a = c.args in (record { found = c.not_found-then-total-at-2.ensures
-          ∙ sym (no_rows a.section _ (words a.src.now) a.at (omega (arith, words_high a.src.now)) _ c.word-count.ensures (is-allowed (goal.at.returns-then-total-at-2 c).Else-not-allowed) _ c.size-k.ensures (omega (arith, words_low a.src.now))); filled = λ z. absurd (never _ _ _ c.not_found-then-total-at-2.ensures (search rules) z) })
+    let a = c.args in (record {
+      found = c.not_found-then-total-at-2.ensures
+          ∙ sym (no_rows a.section _ (words a.src.now) a.at (omega (arith, words_high a.src.now)) _ c.word-count.ensures (is-allowed (goal.at.returns-then-total-at-2 c).Else-not-allowed) _ c.size-k.ensures (omega (arith, words_low a.src.now)));
+      filled = λ z. absurd (never _ _ _ c.not_found-then-total-at-2.ensures (search rules) z);
+    })
 
 pub slice_bounds-load-end : goal.slice_bounds-load-end
 slice_bounds-load-end c = has_room (goal.at.slice_bounds-load-end c).After-size-k
@@ -124,12 +130,18 @@ slice_bounds-first_bad-end-2 c = sym (ap length (take_at c.load.new.dst _ _ (loa
 pub returns-then-bad-k : goal.returns-then-bad-k
 returns-then-bad-k c =
     let a = c.args in
-    let b = c.bad_number.ensures in (record { found = c.not_found-then-bad-k.ensures
+    let b = c.bad_number.ensures in (record {
+      found = c.not_found-then-bad-k.ensures
           ∙ rw b
           (sym (bad_number a.section _ (words a.src.now) a.at (omega (arith, words_high a.src.now)) _ c.word-count.ensures (is-allowed (goal.at.returns-then-bad-k c).Else-not-allowed) _ c.size-k.ensures
-          (omega (arith, words_high a.src.now)) _ (looked (goal.at.returns-then-bad-k c).After-first_bad-bad) c.if-bad-k.true)); filled = λ z. absurd (never _ _ _ c.not_found-then-bad-k.ensures (rw b (bad_number_positive a.section)) z) })
+          (omega (arith, words_high a.src.now)) _ (looked (goal.at.returns-then-bad-k c).After-first_bad-bad) c.if-bad-k.true));
+      filled = λ z. absurd (never _ _ _ c.not_found-then-bad-k.ensures (rw b (bad_number_positive a.section)) z);
+    })
 
 pub returns : goal.returns
 returns c =
-    let a = c.args in (record { found = sym (good a.section _ (words a.src.now) a.at (omega (arith, words_high a.src.now)) _ c.word-count.ensures (is-allowed (goal.at.returns c).Else-not-allowed) _ c.size-k.ensures
-          (omega (arith, words_high a.src.now)) _ (looked (goal.at.returns c).After-first_bad-bad) c.if-bad-k.false); filled = λ z. ap₂ (λ (x : List ℕ) (k : ℕ). x ++ drop k a.dst.now) (loaded (goal.at.returns c).After-load).1 (size_is (goal.at.returns c).After-size-k) })
+    let a = c.args in (record {
+      found = sym (good a.section _ (words a.src.now) a.at (omega (arith, words_high a.src.now)) _ c.word-count.ensures (is-allowed (goal.at.returns c).Else-not-allowed) _ c.size-k.ensures
+          (omega (arith, words_high a.src.now)) _ (looked (goal.at.returns c).After-first_bad-bad) c.if-bad-k.false);
+      filled = λ z. ap₂ (λ (x : List ℕ) (k : ℕ). x ++ drop k a.dst.now) (loaded (goal.at.returns c).After-load).1 (size_is (goal.at.returns c).After-size-k);
+    })

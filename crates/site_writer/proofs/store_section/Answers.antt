@@ -21,7 +21,10 @@ store-requires-2 c = rw (length-take-le _ _ (is-part (goal.at.store-requires-2 c
 
 pub returns : goal.returns
 returns c =
-    let a = c.args in (record { next = omega (arith, c.size-k.ensures); stored = c.store-2.ensures
+    let a = c.args in (record {
+      next = omega (arith, c.size-k.ensures);
+      stored = c.store-2.ensures
           ∙ ap (λ (l : List ℕ). sets l (a.at + 2) (bytes (take c.size-k.result a.v.now))) c.store.ensures
           ∙ sets_append a.dst.now a.at (a.at + 2) (bytes (a.count ∷ [])) (bytes (take c.size-k.result a.v.now)) refl
-          ∙ ap (λ (k : ℕ). sets a.dst.now a.at (bytes (a.count ∷ take k a.v.now))) c.size-k.ensures })
+          ∙ ap (λ (k : ℕ). sets a.dst.now a.at (bytes (a.count ∷ take k a.v.now))) c.size-k.ensures;
+    })

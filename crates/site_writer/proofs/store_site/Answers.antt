@@ -23,25 +23,22 @@ store_section-entries-requires c =
     (omega (arith, (sized (goal.at.store_section-entries-requires c).Start).timings), omega (arith, c.requires.1, length_file c.args.site (sized (goal.at.store_section-entries-requires c).Start) c.requires.0))
 
 pub store_section-holidays-requires : goal.store_section-holidays-requires
-store_section-holidays-requires c =
-    (
-      omega (arith, (sized (goal.at.store_section-holidays-requires c).Start).plan, fits Entries c.args.site.entries (sound (goal.at.store_section-holidays-requires c).Start).plan.allowed),
-      omega (arith, c.requires.1, length_file c.args.site (sized (goal.at.store_section-holidays-requires c).Start) c.requires.0, c.store_section-entries.ensures.next, c.store_section-entries.auto.dst),
-    )
+store_section-holidays-requires c = (
+  omega (arith, (sized (goal.at.store_section-holidays-requires c).Start).plan, fits Entries c.args.site.entries (sound (goal.at.store_section-holidays-requires c).Start).plan.allowed),
+  omega (arith, c.requires.1, length_file c.args.site (sized (goal.at.store_section-holidays-requires c).Start) c.requires.0, c.store_section-entries.ensures.next, c.store_section-entries.auto.dst),
+)
 
 pub store_section-levels-requires : goal.store_section-levels-requires
-store_section-levels-requires c =
-    (
-      omega (arith, (sized (goal.at.store_section-levels-requires c).Start).dates, fits Holidays c.args.site.holidays (sound (goal.at.store_section-levels-requires c).Start).dates.allowed),
-      omega (arith, c.requires.1, length_file c.args.site (sized (goal.at.store_section-levels-requires c).Start) c.requires.0, c.store_section-entries.ensures.next, c.store_section-entries.auto.dst, c.store_section-holidays.ensures.next, c.store_section-holidays.auto.dst),
-    )
+store_section-levels-requires c = (
+  omega (arith, (sized (goal.at.store_section-levels-requires c).Start).dates, fits Holidays c.args.site.holidays (sound (goal.at.store_section-levels-requires c).Start).dates.allowed),
+  omega (arith, c.requires.1, length_file c.args.site (sized (goal.at.store_section-levels-requires c).Start) c.requires.0, c.store_section-entries.ensures.next, c.store_section-entries.auto.dst, c.store_section-holidays.ensures.next, c.store_section-holidays.auto.dst),
+)
 
 pub store_section-requires : goal.store_section-requires
-store_section-requires c =
-    (
-      omega (arith, (sized (goal.at.store_section-requires c).Start).tables, fits Levels c.args.site.levels (sound (goal.at.store_section-requires c).Start).tables.allowed),
-      omega (arith, c.requires.1, length_file c.args.site (sized (goal.at.store_section-requires c).Start) c.requires.0, c.store_section-entries.ensures.next, c.store_section-entries.auto.dst, c.store_section-holidays.ensures.next, c.store_section-holidays.auto.dst, c.store_section-levels.ensures.next, c.store_section-levels.auto.dst),
-    )
+store_section-requires c = (
+  omega (arith, (sized (goal.at.store_section-requires c).Start).tables, fits Levels c.args.site.levels (sound (goal.at.store_section-requires c).Start).tables.allowed),
+  omega (arith, c.requires.1, length_file c.args.site (sized (goal.at.store_section-requires c).Start) c.requires.0, c.store_section-entries.ensures.next, c.store_section-entries.auto.dst, c.store_section-holidays.ensures.next, c.store_section-holidays.auto.dst, c.store_section-levels.ensures.next, c.store_section-levels.auto.dst),
+)
 
 pub returns : goal.returns
 returns c =

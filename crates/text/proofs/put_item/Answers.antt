@@ -21,19 +21,19 @@ loop-k-preserved c =
     let a = c.args in
     let l : c.loop-k.k < length a.list.now = search rules in
     elim c.if-byte-eq44.branch [
-      then-byte-eq44+else-left-eq0 w ↦ (
+      | then-byte-eq44+else-left-eq0 w ↦ (
         search rules,
         search rules,
         search rules,
         rw (w.out-is, w.p-is, w.left-is, ← past_comma a.list.now c.loop-k.k l c.loop-k.left w.if-byte-eq44.true w.if-left-eq0.false) c.loop-k.invariant.3,
       )
-    | else-byte-eq44+then-left-eq0-2 w ↦ (
+      | else-byte-eq44+then-left-eq0-2 w ↦ (
         search rules,
         rw w.p-is (put_within w.put_byte-p.ensures),
         search rules,
         rw (w.out-is, w.p-is, w.left-is) (put_turn (search rules) w.put_byte-p.ensures (item_letter a.list.now c.loop-k.k l c.loop-k.left w.if-byte-eq44.false w.if-left-eq0-2.true) c.loop-k.invariant.3),
       )
-    | else-byte-eq44+else-left-eq0-2 w ↦ (
+      | else-byte-eq44+else-left-eq0-2 w ↦ (
         search rules,
         search rules,
         search rules,

@@ -48,5 +48,8 @@ finished-requires c =
 
 pub returns : goal.returns
 returns c =
-    let a = c.args in (record { is = is c; kept = ap (λ (r : Ticked). state_spoilt r.state (shape_of a.site)) (is c)
-          ∙ good_state (accepted_tick a.site a.state a.input).state (shape_of a.site) (tick_keeps a.site a.state a.input (passed (goal.at.returns c).Start)) })
+    let a = c.args in (record {
+      is = is c;
+      kept = ap (λ (r : Ticked). state_spoilt r.state (shape_of a.site)) (is c)
+          ∙ good_state (accepted_tick a.site a.state a.input).state (shape_of a.site) (tick_keeps a.site a.state a.input (passed (goal.at.returns c).Start));
+    })

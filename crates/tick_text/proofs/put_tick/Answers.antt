@@ -29,8 +29,11 @@ sized start =
 
 pub returns : goal.returns
 unfolding tick_line
-returns c = (record { is = put_then (search rules) c.put_decimal-interval.ensures
-          (λ l. put_then l c.put_interval-lamps.ensures
-          (λ l. put_then l c.put_lamps-decided.ensures
-          (λ l. put_then l c.put_decided-end.ensures
-          (λ _. c.put_byte.ensures)))); short = tick_most c.args.number c.args.t (sized (goal.at.returns c).Start) c.args.n })
+returns c = (record {
+  is = put_then (search rules) c.put_decimal-interval.ensures
+      (λ l. put_then l c.put_interval-lamps.ensures
+      (λ l. put_then l c.put_lamps-decided.ensures
+      (λ l. put_then l c.put_decided-end.ensures
+      (λ _. c.put_byte.ensures))));
+  short = tick_most c.args.number c.args.t (sized (goal.at.returns c).Start) c.args.n;
+})

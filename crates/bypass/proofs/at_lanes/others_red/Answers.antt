@@ -18,12 +18,11 @@ returns-then-other_not_red c =
     (sym c.other_not_red.ensures ∙ c.if-other_not_red.true) ∙ c.loop-i.invariant.1)
 
 pub loop-i-preserved : goal.loop-i-preserved
-loop-i-preserved c =
-    (
-      search rules,
-      any_turn (other_not_red c.args.t c.args.s) c.loop-i.i c.args.t.lanes (search rules)
-          (sym c.other_not_red.ensures ∙ c.if-other_not_red.false) ∙ c.loop-i.invariant.1,
-    )
+loop-i-preserved c = (
+  search rules,
+  any_turn (other_not_red c.args.t c.args.s) c.loop-i.i c.args.t.lanes (search rules)
+      (sym c.other_not_red.ensures ∙ c.if-other_not_red.false) ∙ c.loop-i.invariant.1,
+)
 
 pub returns : goal.returns
 unfolding others_red

@@ -15,12 +15,11 @@ loop-i-init c =
     (search rules, search rules, rw e (λ r d g. g))
 
 pub loop-i-preserved : goal.loop-i-preserved
-loop-i-preserved c =
-    (
-      put_within c.put_line-p.ensures,
-      search rules,
-      put_turn (search rules) c.put_line-p.ensures (joined_turn (line_for _ _ _ _) _ c.loop-i.i (search rules)) c.loop-i.invariant.2,
-    )
+loop-i-preserved c = (
+  put_within c.put_line-p.ensures,
+  search rules,
+  put_turn (search rules) c.put_line-p.ensures (joined_turn (line_for _ _ _ _) _ c.loop-i.i (search rules)) c.loop-i.invariant.2,
+)
 
 pub returns : goal.returns
 returns c =

@@ -32,9 +32,9 @@ loop-i-preserved c =
     c.covering.ensures.is ∙ ap (λ (x : Entry). covering_of a.second.now x a.others) c.entry_at-e.ensures in (
       search rules,
       elim c.if-covering-eq0.branch [
-        then-covering-eq0 w ↦ (let l = w.list-is ∙ w.with_entry-list.ensures ∙ ap (λ (x : Entry). with_entry c.loop-i.list x) c.entry_at-e.ensures in
-          (rw (l, one_more_entry c.loop-i.list e) (omega (arith, c.loop-i.invariant.1.0)), rw l (rw (one, not_covered a.second.now e a.others (sym same ∙ w.if-covering-eq0.true)) at c.loop-i.invariant.1.1)))
-      | else-covering-eq0 w ↦ rw w.list-is (omega (arith, c.loop-i.invariant.1.0), rw (one, covered a.second.now e a.others (λ z. w.if-covering-eq0.false (same ∙ z))) at c.loop-i.invariant.1.1)
+        | then-covering-eq0 w ↦ (let l = w.list-is ∙ w.with_entry-list.ensures ∙ ap (λ (x : Entry). with_entry c.loop-i.list x) c.entry_at-e.ensures in
+            (rw (l, one_more_entry c.loop-i.list e) (omega (arith, c.loop-i.invariant.1.0)), rw l (rw (one, not_covered a.second.now e a.others (sym same ∙ w.if-covering-eq0.true)) at c.loop-i.invariant.1.1)))
+        | else-covering-eq0 w ↦ rw w.list-is (omega (arith, c.loop-i.invariant.1.0), rw (one, covered a.second.now e a.others (λ z. w.if-covering-eq0.false (same ∙ z))) at c.loop-i.invariant.1.1)
       ],
     )
 

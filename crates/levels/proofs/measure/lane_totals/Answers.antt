@@ -18,7 +18,7 @@ loop-j-preserved c =
     let at = c.lane_counts-lane.ensures in
     let good = c.is_good.ensures in
     elim c.if-is_good.branch [
-      then-is_good w ↦ (let g = sym good ∙ w.if-is_good.true in (
+      | then-is_good w ↦ (let g = sym good ∙ w.if-is_good.true in (
         search rules,
         rw w.lanes-is (sum_with_good x _ _ j _ i.1 lane at g (search rules)),
         rw w.vehicles-is (sum_with_good x _ _ j _ i.2 lane at g (search rules)),
@@ -26,7 +26,7 @@ loop-j-preserved c =
         rw w.timed-is (sum_with_good x _ _ j _ i.4 lane at g (search rules)),
         rw w.millis-is (sum_with_good x _ _ j _ i.5 lane at g (search rules)),
       ))
-    | else-is_good w ↦ (let f = sym good ∙ w.if-is_good.false in (
+      | else-is_good w ↦ (let f = sym good ∙ w.if-is_good.false in (
         search rules,
         rw w.lanes-is (sum_with_failed x _ _ j _ i.1 lane at f),
         rw w.vehicles-is (sum_with_failed x _ _ j _ i.2 lane at f),

@@ -20,6 +20,9 @@ returns-then-not-completes c = (record { is = rw (← c.completes.ensures, not-t
 
 pub returns : goal.returns
 unfolding answer_text
-returns c = (record { is = rw (← c.completes.ensures, not-false c.completes.result c.if-not-completes.false-raw)
-          (put_then (search rules) (rw c.shape_of.ensures at c.put_tick-end.ensures.is)
-          (λ l. put_then l c.put_poll-polled.ensures (λ _. c.put_speeds.ensures))); short = answer-short (goal.at.returns c).After-put_tick-end })
+returns c = (record {
+  is = rw (← c.completes.ensures, not-false c.completes.result c.if-not-completes.false-raw)
+      (put_then (search rules) (rw c.shape_of.ensures at c.put_tick-end.ensures.is)
+      (λ l. put_then l c.put_poll-polled.ensures (λ _. c.put_speeds.ensures)));
+  short = answer-short (goal.at.returns c).After-put_tick-end;
+})

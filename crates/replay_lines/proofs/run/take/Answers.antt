@@ -74,15 +74,14 @@ pub loop-at-smaller : goal.loop-at-smaller
 loop-at-smaller c = omega arith
 
 pub loop-at-preserved : goal.loop-at-preserved
-loop-at-preserved c =
-    (
-      omega (arith, below_line (goal.at.loop-at-preserved c).After-after_line-run),
-      c.if-run.false,
-      same_room (goal.at.loop-at-preserved c).After-after_line-run,
-      λ z. absurd (omega (arith, z)),
-      reached_same _ (rw c.line_start-scan.ensures (line_begins (goal.at.loop-at-preserved c).After-after_line-run)) (behind_line (goal.at.loop-at-preserved c).After-after_line-run),
-      answer_fits (goal.at.loop-at-preserved c).After-after_line-run,
-    )
+loop-at-preserved c = (
+  omega (arith, below_line (goal.at.loop-at-preserved c).After-after_line-run),
+  c.if-run.false,
+  same_room (goal.at.loop-at-preserved c).After-after_line-run,
+  λ z. absurd (omega (arith, z)),
+  reached_same _ (rw c.line_start-scan.ensures (line_begins (goal.at.loop-at-preserved c).After-after_line-run)) (behind_line (goal.at.loop-at-preserved c).After-after_line-run),
+  answer_fits (goal.at.loop-at-preserved c).After-after_line-run,
+)
 
 pub returns : goal.returns
 returns c =

@@ -9,12 +9,11 @@ pub loop-speed-init : goal.loop-speed-init
 loop-speed-init c = (search rules, search rules, λ r d g. g)
 
 pub loop-speed-preserved : goal.loop-speed-preserved
-loop-speed-preserved c =
-    (
-      put_within c.put_speed-p.ensures,
-      search rules,
-      put_turn (search rules) c.put_speed-p.ensures (joined_turn speed_line 81 c.loop-speed.speed (search rules)) c.loop-speed.invariant.2,
-    )
+loop-speed-preserved c = (
+  put_within c.put_speed-p.ensures,
+  search rules,
+  put_turn (search rules) c.put_speed-p.ensures (joined_turn speed_line 81 c.loop-speed.speed (search rules)) c.loop-speed.invariant.2,
+)
 
 pub returns : goal.returns
 returns c =

@@ -9,12 +9,11 @@ pub loop-column-init : goal.loop-column-init
 loop-column-init c = (search rules, search rules, λ r d g. g)
 
 pub loop-column-preserved : goal.loop-column-preserved
-loop-column-preserved c =
-    (
-      put_within c.put_yellow-p.ensures,
-      search rules,
-      put_turn (search rules) c.put_yellow-p.ensures (joined_turn (yellow_text c.args.speed) 17 c.loop-column.column (search rules)) c.loop-column.invariant.2,
-    )
+loop-column-preserved c = (
+  put_within c.put_yellow-p.ensures,
+  search rules,
+  put_turn (search rules) c.put_yellow-p.ensures (joined_turn (yellow_text c.args.speed) 17 c.loop-column.column (search rules)) c.loop-column.invariant.2,
+)
 
 pub returns : goal.returns
 returns c =
