@@ -15,7 +15,7 @@ use lib.Ieee.Fits.{nearest-le, down_pos, up_pos, and_l}
 use lib.Ieee.Exact.{HasValue, round_exact}
 use lib.Ieee.Nearest.{closest, nearest-ge}
 use lib.Ieee.Order.{drop, round_mono}
-use lib.Ieee.Scale.{finite, round_same, round_val, round_under}
+use lib.Ieee.Scale.{round_same, round_val, round_under}
 use lib.Ieee.Back.{round_whole}
 use lib.Ieee.Positive.{positive, positive_of_value, positive-finite, between, values_of_le, le_trans_positive}
 use lib.Ieee.Bits.{is_true, nan_bits_is, nan_bits_above}
