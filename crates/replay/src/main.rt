@@ -13,12 +13,6 @@ fn main(rt: HostRuntime) {
     );
     if site.given {
         let n = site.count;
-        replay_file::replay(
-            &rt,
-            &name[..n],
-            site.named,
-            &mut rt.stdin(),
-            STDERR_FILENO,
-        );
+        replay_file::replay(&rt, &name[..n], site.named, &mut rt.stdin(), STDERR_FILENO);
     }
 }

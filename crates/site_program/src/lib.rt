@@ -188,12 +188,7 @@ fn named(
 
 // The site file that the arguments ask for; its name is put in the front of a buffer. Help is
 // printed, and arguments that are wrong are reported.
-pub fn asked_site(
-    rt: &(impl Env + Print),
-    usage: &[u8],
-    help: &[u8],
-    name: &mut [u8],
-) -> AskedSite
+pub fn asked_site(rt: &(impl Env + Print), usage: &[u8], help: &[u8], name: &mut [u8]) -> AskedSite
     ensures { result.count ≤ length name.new }
 {
     let count = arguments_given(rt);
@@ -214,13 +209,7 @@ pub fn asked_site(
 }
 
 // The site file that argument i names, one of several; `what` says which. Help is not asked for among them.
-pub fn asked_name(
-    rt: &impl Env,
-    i: usize,
-    what: &[u8],
-    usage: &[u8],
-    name: &mut [u8],
-) -> AskedSite
+pub fn asked_name(rt: &impl Env, i: usize, what: &[u8], usage: &[u8], name: &mut [u8]) -> AskedSite
     ensures { result.count ≤ length name.new }
 {
     let got = rt.arg(i, name);
