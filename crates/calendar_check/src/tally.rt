@@ -1,6 +1,6 @@
 // What was compared, and the first answer that differed.
 use calendar::Date;
-use libc::STDOUT_FILENO;
+use streams::STDOUT_FILENO;
 
 // Day types, and how many of them were Holiday.
 #[derive(Clone, Copy)]

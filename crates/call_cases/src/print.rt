@@ -217,7 +217,7 @@ pub fn line_of(t: Ticked) -> Line {
 }
 
 pub fn ticked(number: u16, line: Line) {
-    io::print_decimal(libc::STDOUT_FILENO, number as u64);
+    io::print_decimal(streams::STDOUT_FILENO, number as u64);
     let text = line.text;
     test_output::print(&text, line.count);
 }

@@ -8,8 +8,9 @@ mod report;
 ghost use Rattle.std.specs.Prelude.{◌≡◌, ◌≤◌, length};
 ghost use Rattle.join_plans.specs.Report.{ShortNames};
 
-use libc::STDERR_FILENO;
 use site::Site;
+use std::rt::{Env, Files};
+use streams::STDERR_FILENO;
 
 const USAGE: [u8; 42] = *b"usage: join_plans SITE ROADWORKS > JOINED\n";
 
@@ -31,7 +32,7 @@ fn print_report(name: &[u8], site: Site, other: &[u8], works: Site)
     io::write_all(STDERR_FILENO, &text[..n]);
 }
 
-fn print_joined(name: &[u8], site: Site, other: &[u8], works: Site)
+fn print_joined(rt: &impl Print, name: &[u8], site: Site, other: &[u8], works: Site)
     requires { ShortNames name.now site other.now works }
 {
     let mut file = [0u8; site_reader::FRONT];
@@ -40,49 +41,50 @@ fn print_joined(name: &[u8], site: Site, other: &[u8], works: Site)
         print_remaining(written.refusal, name, site, other, works);
         return;
     }
-    if site_program::write_front(&file, written.count) {
+    if site_program::write_front(rt, &file, written.count) {
         print_report(name, site, other, works);
     }
 }
 
-fn join_files(name: &[u8], other: &[u8])
+fn join_files(rt: &(impl Files + Print), name: &[u8], other: &[u8])
     requires { (length name.now ≤ 4096) × (length other.now ≤ 4096) }
 {
-    let first = site_input::site_of(name, true, true);
+    let first = site_input::site_of(rt, name, true, true);
     if !first.given {
         return;
     }
-    let second = site_input::site_of(other, true, true);
+    let second = site_input::site_of(rt, other, true, true);
     if !second.given {
         return;
     }
     let site = first.site;
     let works = second.site;
-    print_joined(name, site, other, works);
+    print_joined(rt, name, site, other, works);
 }
 
-fn join_asked() {
+fn join_asked(rt: &(impl Env + Files + Print)) {
     let mut name = io::buffer();
     let mut other = io::buffer();
     let usage = USAGE;
-    let first = site_program::asked_name(1, b"the first file's name", &usage, &mut name);
+    let first = site_program::asked_name(rt, 1, b"the first file's name", &usage, &mut name);
     if !first.given {
         return;
     }
-    let second = site_program::asked_name(2, b"the second file's name", &usage, &mut other);
+    let second = site_program::asked_name(rt, 2, b"the second file's name", &usage, &mut other);
     if !second.given {
         return;
     }
     let n = first.count;
     let m = second.count;
-    join_files(&name[..n], &other[..m]);
+    join_files(rt, &name[..n], &other[..m]);
 }
 
 // The help, where the one argument asks for it; else how many are wanted.
-fn print_other(count: usize) {
+fn print_other(rt: &(impl Env + Print), count: usize) {
     let usage = USAGE;
-    if count == 1 && site_program::asks_help() {
+    if count == 1 && site_program::asks_help(rt) {
         site_program::print_help(
+            rt,
             &usage,
             b"Joins the plan of ROADWORKS, a site file, to that of SITE, and writes SITE with the joined plan, as a site file.\nAn entry of SITE is dropped if one of ROADWORKS has the same start and all its days: on standard error stands which, or why\nnothing is written.\ndocs/FORMATS.md describes the site file and the lines.\n",
         );
@@ -91,11 +93,11 @@ fn print_other(count: usize) {
     site_program::print_wanted(count, b"2", &usage);
 }
 
-fn main() {
-    let count = site_program::arguments_given();
+fn main(rt: HostRuntime) {
+    let count = site_program::arguments_given(&rt);
     if count == 2 {
-        join_asked();
+        join_asked(&rt);
         return;
     }
-    print_other(count);
+    print_other(&rt, count);
 }

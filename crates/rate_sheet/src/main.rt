@@ -9,9 +9,9 @@ ghost use Rattle.rate_sheet.specs.Sheet.{rate_line, rate_lines, sheet_text, ramp
 
 use calendar::{Clock, Date};
 use inputs::{Calls, Command, Mainline, Metered};
-use libc::STDERR_FILENO;
 use site::Site;
 use site_program::Asked;
+use streams::STDERR_FILENO;
 use tick::Input;
 
 const FIRST_RATE: u16 = 150;
@@ -132,14 +132,15 @@ fn fill_sheet(out: &mut [u8; SHEET])
     put_sheet(out);
 }
 
-fn print_sheet() {
+fn print_sheet(rt: &impl Print) {
     let mut sheet = [0u8; SHEET];
     fill_sheet(&mut sheet);
-    site_program::write_out(&sheet);
+    site_program::write_out(rt, &sheet);
 }
 
-fn print_help() {
+fn print_help(rt: &impl Print) {
     site_program::write_out(
+        rt,
         b"usage: rate_sheet\nPrints for every metering rate, 150 to 1800, the cycle in seconds at 1, 2 and 3 vehicles per green.\n",
     );
 }
@@ -148,16 +149,16 @@ fn print_no_argument_wanted() {
     io::write_all(STDERR_FILENO, b"no argument is wanted\nusage: rate_sheet\n");
 }
 
-fn main() {
-    let count = site_program::arguments_given();
+fn main(rt: HostRuntime) {
+    let count = site_program::arguments_given(&rt);
     if count == 0 {
-        print_sheet();
+        print_sheet(&rt);
         return;
     }
     let mut argument = io::buffer();
-    let n = os::arg(1, &mut argument);
+    let n = site_program::argument(&rt, 1, &mut argument);
     match site_program::asked_by(count, &argument[..n]) {
-        Asked::Help => print_help(),
+        Asked::Help => print_help(&rt),
         _ => print_no_argument_wanted(),
     }
 }

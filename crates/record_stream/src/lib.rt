@@ -3,7 +3,8 @@
 
 ghost use Rattle.std.specs.Prelude.{◌≡◌, cond, ◌-◌, ◌%◌, ◌≤◌, length, take, drop};
 
-use libc::{STDERR_FILENO, STDIN_FILENO};
+use std::io::Read;
+use streams::STDERR_FILENO;
 
 // How many bytes stand in the front of a buffer, whether they are the last, and whether they could not be read.
 #[derive(Clone, Copy)]
@@ -13,21 +14,25 @@ pub struct Front {
     pub failed: bool,
 }
 
-// One read of standard input behind the `held` bytes that are left of the one before.
-pub fn read_on(buffer: &mut [u8], held: usize) -> Front
+// One read of the records behind the `held` bytes that are left of the one before.
+pub fn read_on(records: &mut impl Read, buffer: &mut [u8], held: usize) -> Front
     requires { held ≤ length buffer.old }
     ensures { result.count ≤ length buffer.old }
 {
-    let part = &mut buffer[held..];
-    let got = libc::read(STDIN_FILENO, part);
-    let n = io::count(got, part);
-    if got < 0 {
-        os::fail(b"the records");
-    }
-    Front {
-        count: held + n,
-        last: n == 0,
-        failed: got < 0,
+    match records.read(&mut buffer[held..]) {
+        Ok(n) => Front {
+            count: held + n,
+            last: n == 0,
+            failed: false,
+        },
+        Err(error) => {
+            streams::fail(b"the records", error);
+            Front {
+                count: held,
+                last: true,
+                failed: true,
+            }
+        }
     }
 }
 

@@ -1,5 +1,5 @@
 // What searches found, summed up in a line.
-use libc::STDOUT_FILENO;
+use streams::STDOUT_FILENO;
 
 #[derive(Clone, Copy)]
 pub struct Findings {

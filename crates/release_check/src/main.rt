@@ -10,7 +10,7 @@ mod standing;
 
 use findings::Findings;
 use lanes::{LONGEST, Lanes};
-use libc::STDOUT_FILENO;
+use streams::STDOUT_FILENO;
 use timings::Timings;
 
 const FIRST_CYCLE: u16 = 20;

@@ -5,21 +5,19 @@
 
 ghost use Rattle.std.specs.Prelude.{◌≤◌, length};
 
-use libc::{STDIN_FILENO, STDOUT_FILENO};
+use std::rt::Files;
+use streams::{STDIN_FILENO, STDOUT_FILENO};
 
-fn show(site: &[u8], ticks: &[u8]) {
+fn show(rt: &(impl Files + Print), site: &[u8], ticks: &[u8]) {
     io::write_all(STDOUT_FILENO, b"-- ");
     io::write_all(STDOUT_FILENO, site);
     io::write_all(STDOUT_FILENO, b" ");
     io::write_all(STDOUT_FILENO, ticks);
     io::write_all(STDOUT_FILENO, b"\n");
-    let fd = os::open_read(ticks);
-    if fd < 0 {
-        os::fail(ticks);
-        return;
+    match file_input::open(rt, ticks) {
+        Ok(mut file) => replay_file::replay(rt, site, false, &mut file, STDOUT_FILENO),
+        Err(error) => streams::fail(ticks, error),
     }
-    replay_file::replay(site, false, fd, STDOUT_FILENO);
-    libc::close(fd);
 }
 
 // The place of the first such byte from a place on, or the end.
@@ -38,19 +36,19 @@ fn place_of(text: &[u8], from: usize, byte: u8) -> usize
 }
 
 // The run of one line.
-fn show_line(line: &[u8]) {
+fn show_line(rt: &(impl Files + Print), line: &[u8]) {
     let blank = place_of(line, 0, b' ');
     if blank < line.len() {
         let next = blank + 1;
-        show(&line[..blank], &line[next..]);
+        show(rt, &line[..blank], &line[next..]);
     }
 }
 
-fn show_all(lines: &[u8]) {
+fn show_all(rt: &(impl Files + Print), lines: &[u8]) {
     let mut from: usize = 0;
     while from < lines.len() {
         let end = place_of(lines, from, b'\n');
-        show_line(&lines[from..end]);
+        show_line(rt, &lines[from..end]);
         if lines.len() <= end {
             return;
         }
@@ -58,8 +56,8 @@ fn show_all(lines: &[u8]) {
     }
 }
 
-fn main() {
+fn main(rt: HostRuntime) {
     let mut lines = io::large_buffer();
     let n = io::read_full(STDIN_FILENO, &mut lines);
-    show_all(&lines[..n]);
+    show_all(&rt, &lines[..n]);
 }

@@ -4,6 +4,7 @@ ghost use Rattle.replay_lines.specs.Replay.{longest_answer, run_after};
 
 use replay_lines::Run;
 use site::Site;
+use std::io::Read;
 
 // The run, and whether more is to be read.
 #[derive(Clone, Copy)]
@@ -13,7 +14,7 @@ struct Going {
 }
 
 // Takes the bytes of one read, and writes all that they add. The run goes on behind all of them.
-fn take_all(site: Site, first: Run, bytes: &[u8], out: &mut [u8]) -> Going
+fn take_all(rt: &impl Print, site: Site, first: Run, bytes: &[u8], out: &mut [u8]) -> Going
     requires { longest_answer ≤ length out.old }
     ensures { result.on ≡ true → result.run ≡ run_after site bytes.now first }
 {
@@ -23,7 +24,7 @@ fn take_all(site: Site, first: Run, bytes: &[u8], out: &mut [u8]) -> Going
         let taken = replay_lines::take(site, run, &bytes[from..], out);
         run = taken.run;
         let n = taken.text;
-        if !site_program::write_out(&out[..n]) {
+        if !site_program::write_out(rt, &out[..n]) {
             return Going { run, on: false };
         }
         from += taken.bytes;
@@ -33,11 +34,11 @@ fn take_all(site: Site, first: Run, bytes: &[u8], out: &mut [u8]) -> Going
 }
 
 // The end of the ticks; a last line may lack its newline.
-fn end_all(site: Site, run: Run, out: &mut [u8]) -> Going
+fn end_all(rt: &impl Print, site: Site, run: Run, out: &mut [u8]) -> Going
     requires { longest_answer ≤ length out.old }
 {
     let end = replay_lines::put_last(out, 0, site, run);
-    site_program::write_out(&out[..end]);
+    site_program::write_out(rt, &out[..end]);
     Going {
         run: replay_lines::last(site, run),
         on: false,
@@ -45,19 +46,24 @@ fn end_all(site: Site, run: Run, out: &mut [u8]) -> Going
 }
 
 // One read of the ticks.
-fn read_some(site: Site, run: Run, fd: i32, bytes: &mut [u8], out: &mut [u8]) -> Going
+fn read_some(
+    rt: &impl Print,
+    site: Site,
+    run: Run,
+    ticks: &mut impl Read,
+    bytes: &mut [u8],
+    out: &mut [u8],
+) -> Going
     requires { longest_answer ≤ length out.old }
 {
-    let got = libc::read(fd, bytes);
-    if got < 0 {
-        os::fail(b"the ticks");
-        return Going { run, on: false };
+    match ticks.read(bytes) {
+        Ok(0) => end_all(rt, site, run, out),
+        Ok(n) => take_all(rt, site, run, &bytes[..n], out),
+        Err(error) => {
+            streams::fail(b"the ticks", error);
+            Going { run, on: false }
+        }
     }
-    let n = io::count(got, bytes);
-    if n == 0 {
-        return end_all(site, run, out);
-    }
-    take_all(site, run, &bytes[..n], out)
 }
 
 // Says what is wrong with the first refused tick, where it is one of those just read.
@@ -77,7 +83,7 @@ fn explain_first(errors: i32, site: Site, earlier: Run, run: Run) {
 }
 
 // Reads ticks until they end or a line is no tick. All answers are written before the next read.
-pub fn replay_at(site: Site, fd: i32, errors: i32) {
+pub fn replay_at(rt: &impl Print, site: Site, ticks: &mut impl Read, errors: i32) {
     let mut space = io::large_buffer();
     let out: &mut [u8] = &mut space;
     let mut more = io::large_buffer();
@@ -85,7 +91,7 @@ pub fn replay_at(site: Site, fd: i32, errors: i32) {
     let heading = tick_text::put_heading(out, 0);
     let mut going = Going {
         run: replay_lines::start(site),
-        on: site_program::write_front(out, heading),
+        on: site_program::write_front(rt, out, heading),
     };
     // the language wants to see that a loop ends
     let mut left: u64 = 18446744073709551615;
@@ -94,7 +100,7 @@ pub fn replay_at(site: Site, fd: i32, errors: i32) {
             return;
         }
         let run = going.run;
-        going = read_some(site, run, fd, bytes, out);
+        going = read_some(rt, site, run, ticks, bytes, out);
         let read = going.run;
         explain_first(errors, site, run, read);
         left -= 1;

@@ -8,6 +8,8 @@ ghost use Rattle.std.specs.Prelude.{◌≡◌, ◌≤◌, length};
 use record_stream::Front;
 use site::Site;
 use state::State;
+use std::io::Read;
+use std::rt::Files;
 
 // The state, and how many ticks were accepted so far; the refusal, or 0; how many bytes of the output the ticks since the last read take;
 // how many bytes of the next record are held; whether more is to be read, and whether nothing has failed.
@@ -44,9 +46,16 @@ fn take(site: Site, singly: bool, run: Run, bytes: &[u8], out: &mut [u8]) -> Run
 }
 
 // Runs the records of some bytes, and writes what they show.
-fn run_block(site: Site, singly: bool, run: Run, bytes: &[u8], out: &mut [u8]) -> Run {
+fn run_block(
+    rt: &impl Print,
+    site: Site,
+    singly: bool,
+    run: Run,
+    bytes: &[u8],
+    out: &mut [u8],
+) -> Run {
     let mut next = take(site, singly, run, bytes, out);
-    next.well = site_program::write_front(out, next.shown);
+    next.well = site_program::write_front(rt, out, next.shown);
     next.on = next.well & (next.refusal == 0);
     next
 }
@@ -63,6 +72,7 @@ fn holding(mut run: Run, held: usize, last: bool) -> Run
 // Runs the whole records of the buffer's front and holds the bytes behind them; at the end of the stream these are a record too, which
 // is cut short.
 fn run_front(
+    rt: &impl Print,
     site: Site,
     singly: bool,
     run: Run,
@@ -75,27 +85,35 @@ fn run_front(
 {
     let shape = site::shape_of(site);
     let n = record_stream::taken(front, tick_record::size(shape.lanes, shape.mainline));
-    let next = run_block(site, singly, run, &buffer[..n], out);
+    let next = run_block(rt, site, singly, run, &buffer[..n], out);
     record_stream::move_front(buffer, n, front.count);
     holding(next, front.count - n, front.last)
 }
 
 // One read of the records.
-fn read_some(site: Site, singly: bool, mut run: Run, buffer: &mut [u8], out: &mut [u8]) -> Run
+fn read_some(
+    rt: &impl Print,
+    records: &mut impl Read,
+    site: Site,
+    singly: bool,
+    mut run: Run,
+    buffer: &mut [u8],
+    out: &mut [u8],
+) -> Run
     requires { run.held ≤ length buffer.old }
     ensures { result.held ≤ length buffer.new }
 {
-    let front = record_stream::read_on(buffer, run.held);
+    let front = record_stream::read_on(records, buffer, run.held);
     if front.failed {
         run.on = false;
         run.well = false;
         return run;
     }
-    run_front(site, singly, run, front, buffer, out)
+    run_front(rt, site, singly, run, front, buffer, out)
 }
 
 // Reads records until they end or one is refused. What all whole ones show is written before the next read.
-fn run_all(site: Site, singly: bool) -> Run {
+fn run_all(rt: &impl Print, records: &mut impl Read, site: Site, singly: bool) -> Run {
     let mut room = io::large_buffer();
     let out: &mut [u8] = &mut room;
     let mut more = io::large_buffer();
@@ -117,21 +135,27 @@ fn run_all(site: Site, singly: bool) -> Run {
         if !run.on {
             return run;
         }
-        run = read_some(site, singly, run, buffer, out);
+        run = read_some(rt, records, site, singly, run, buffer, out);
         left -= 1;
     }
     run
 }
 
-// Simulates the records of standard input at the site of that name, singly or not. A site file that is refused is reported on standard
+// Simulates records at the site of that name, singly or not. A site file that is refused is reported on standard
 // error; so is one that cannot be read, or that the user named and that is absent.
-pub fn simulate(name: &[u8], named: bool, singly: bool) {
-    let read = site_input::site_of(name, named, false);
+pub fn simulate(
+    rt: &(impl Files + Print),
+    records: &mut impl Read,
+    name: &[u8],
+    named: bool,
+    singly: bool,
+) {
+    let read = site_input::site_of(rt, name, named, false);
     if !read.given {
         return;
     }
     let site = read.site;
-    let run = run_all(site, singly);
+    let run = run_all(rt, records, site, singly);
     if run.well {
         record_stream::print_end(run.accepted, run.refusal);
     }

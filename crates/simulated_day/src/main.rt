@@ -9,9 +9,9 @@ mod random;
 use calendar::{Clock, Date};
 use group::Indications;
 use inputs::{Calls, Command, Mainline, Metered};
-use libc::{STDERR_FILENO, STDIN_FILENO, STDOUT_FILENO};
 use site::Site;
 use state::State;
+use streams::{STDERR_FILENO, STDIN_FILENO, STDOUT_FILENO};
 use tick::{Input, Ticked};
 
 const TICKS: u32 = 864000;
@@ -205,8 +205,8 @@ fn run_samples() {
     io::write_all(STDOUT_FILENO, b"\n");
 }
 
-fn main() {
-    if 1 < os::arg_count() {
+fn main(rt: HostRuntime) {
+    if 0 < site_program::arguments_given(&rt) {
         run_samples();
         return;
     }

@@ -5,9 +5,9 @@
 // byte shorter.
 #![tactic(auto)]
 
-use libc::STDOUT_FILENO;
 use output::Written;
 use site::Site;
+use streams::STDOUT_FILENO;
 
 // What a call answered, and whether it left every byte behind what it wrote as it was.
 #[derive(Clone, Copy)]

@@ -4,8 +4,9 @@
 ghost use Rattle.std.specs.Prelude.{◌≡◌, true, false};
 ghost use Rattle.site.specs.Record.{spoilt_site};
 
-use libc::STDERR_FILENO;
 use site::Site;
+use std::rt::Files;
+use streams::STDERR_FILENO;
 
 // A site, where its file could be read and was accepted.
 #[derive(Clone, Copy)]
@@ -26,11 +27,11 @@ fn report(name: &[u8], file: &[u8], refusal: u8, place: usize, explained: bool) 
 }
 
 // Reads the site file of that name. A refused one is reported.
-pub fn site_of(name: &[u8], named: bool, explained: bool) -> GivenSite
+pub fn site_of(rt: &impl Files, name: &[u8], named: bool, explained: bool) -> GivenSite
     ensures { result.given ≡ true → spoilt_site result.site ≡ false }
 {
     let mut file = [0u8; site_reader::FRONT];
-    let input = file_input::read_file(name, named, &mut file);
+    let input = file_input::read_file(rt, name, named, &mut file);
     let n = input.count;
     let read = site_reader::read(&file[..n]);
     let site = read.site;

@@ -6,9 +6,13 @@ mod arguments;
 
 ghost use Rattle.std.specs.Prelude.{◌≡◌, ◌≤◌, length};
 ghost use Rattle.io.specs.Counts.{IsPrefixLen};
+ghost use Rattle.std.specs.Io.{WritesAtMost};
 
 pub use arguments::{Asked, asked_by};
-use libc::{STDERR_FILENO, STDOUT_FILENO};
+use std::env::FillError;
+use std::io::Error;
+use std::rt::Env;
+use streams::STDERR_FILENO;
 
 // Whether a site file is to be read, whether the user named it, and how long its name is.
 #[derive(Clone, Copy)]
@@ -19,20 +23,22 @@ pub struct AskedSite {
 }
 
 // Writes a text. A failure is reported on standard error.
-pub fn write_out(text: &[u8]) -> bool {
-    if io::write_all(STDOUT_FILENO, text) {
-        return true;
+pub fn write_out(rt: &impl Print, text: &[u8]) -> bool {
+    match rt.write_all(text) {
+        Ok(()) => true,
+        Err(error) => {
+            streams::fail(b"standard output", error);
+            false
+        }
     }
-    os::fail(b"standard output");
-    false
 }
 
 // Writes the first n bytes of a text, where there are as many.
-pub fn write_front(text: &[u8], n: usize) -> bool {
+pub fn write_front(rt: &impl Print, text: &[u8], n: usize) -> bool {
     if text.len() < n {
         return false;
     }
-    write_out(&text[..n])
+    write_out(rt, &text[..n])
 }
 
 // The same to a file for errors, whose own failure has no place to be reported.
@@ -59,20 +65,26 @@ fn nothing_asked() -> AskedSite
     }
 }
 
-pub fn print_help(usage: &[u8], help: &[u8]) {
-    if write_out(usage) {
-        write_out(help);
+pub fn print_help(rt: &impl Print, usage: &[u8], help: &[u8]) {
+    if write_out(rt, usage) {
+        write_out(rt, help);
     }
 }
 
 // An argument that is empty, or longer than any name; `what` says which it is.
-fn print_no_name(error: i32, what: &[u8]) {
-    if error != 0 {
-        os::fail(what);
-        return;
+fn print_no_name(got: Result<usize, FillError>, what: &[u8]) {
+    match got {
+        Ok(_) => {
+            io::write_all(STDERR_FILENO, what);
+            io::write_all(STDERR_FILENO, b" is empty\n");
+        }
+        Err(FillError::TooLong) => {
+            streams::fail(what, Error::from_raw_os_error(streams::ENAMETOOLONG));
+        }
+        Err(FillError::NotPresent) => {
+            streams::fail(what, Error::from_raw_os_error(streams::EINVAL));
+        }
     }
-    io::write_all(STDERR_FILENO, what);
-    io::write_all(STDERR_FILENO, b" is empty\n");
 }
 
 fn print_no_option(argument: &[u8], usage: &[u8]) {
@@ -90,18 +102,40 @@ pub fn print_wanted(count: usize, wanted: &[u8], usage: &[u8]) {
 }
 
 // How many arguments stand behind the program's own name.
-pub fn arguments_given() -> usize {
-    let count = os::arg_count();
-    if count == 0 {
-        return 0;
+pub fn arguments_given(rt: &impl Env) -> usize {
+    let mut count = 0;
+    for i in 1..usize::MAX {
+        if let Err(FillError::NotPresent) = rt.arg(i, &mut []) {
+            break;
+        }
+        count = i;
     }
-    count - 1
+    count
+}
+
+// How long an argument is that stands in the front of a buffer; 0 of one that is missing or too long.
+fn length_of(got: Result<usize, FillError>, buf: &[u8]) -> usize
+    requires { WritesAtMost got buf.now }
+    ensures { IsPrefixLen result buf.now }
+{
+    match got {
+        Ok(n) => n,
+        Err(_) => 0,
+    }
+}
+
+// Puts argument i in the front of a buffer: its length, or 0 where it is missing or too long.
+pub fn argument(rt: &impl Env, i: usize, buf: &mut [u8]) -> usize
+    ensures { IsPrefixLen result buf.new }
+{
+    let got = rt.arg(i, buf);
+    length_of(got, buf)
 }
 
 // Whether the first argument asks for help.
-pub fn asks_help() -> bool {
+pub fn asks_help(rt: &impl Env) -> bool {
     let mut word = io::buffer();
-    let n = os::arg(1, &mut word);
+    let n = argument(rt, 1, &mut word);
     match asked_by(1, &word[..n]) {
         Asked::Help => true,
         _ => false,
@@ -124,7 +158,14 @@ fn default_name(name: &mut [u8]) -> AskedSite
 }
 
 // An argument that is a site file's name of n bytes, or what is wrong with it.
-fn named(asked: Asked, n: usize, error: i32, what: &[u8], usage: &[u8], name: &[u8]) -> AskedSite
+fn named(
+    asked: Asked,
+    n: usize,
+    got: Result<usize, FillError>,
+    what: &[u8],
+    usage: &[u8],
+    name: &[u8],
+) -> AskedSite
     requires { IsPrefixLen n name.now }
     ensures { result.count ≤ n }
 {
@@ -135,7 +176,7 @@ fn named(asked: Asked, n: usize, error: i32, what: &[u8], usage: &[u8], name: &[
             count: n,
         },
         Asked::NoName => {
-            print_no_name(error, what);
+            print_no_name(got, what);
             nothing_asked()
         }
         _ => {
@@ -147,32 +188,32 @@ fn named(asked: Asked, n: usize, error: i32, what: &[u8], usage: &[u8], name: &[
 
 // The site file that the arguments ask for; its name is put in the front of a buffer. Help is
 // printed, and arguments that are wrong are reported.
-pub fn asked_site(usage: &[u8], help: &[u8], name: &mut [u8]) -> AskedSite
+pub fn asked_site(rt: &(impl Env + Print), usage: &[u8], help: &[u8], name: &mut [u8]) -> AskedSite
     ensures { result.count ≤ length name.new }
 {
-    let count = arguments_given();
-    let n = os::arg(1, name);
-    let error = os::errno();
+    let count = arguments_given(rt);
+    let got = rt.arg(1, name);
+    let n = length_of(got, name);
     match asked_by(count, &name[..n]) {
         Asked::Default => default_name(name),
         Asked::Help => {
-            print_help(usage, help);
+            print_help(rt, usage, help);
             nothing_asked()
         }
         Asked::TooMany => {
             print_wanted(count, b"at most 1", usage);
             nothing_asked()
         }
-        asked => named(asked, n, error, b"the site file's name", usage, name),
+        asked => named(asked, n, got, b"the site file's name", usage, name),
     }
 }
 
 // The site file that argument i names, one of several; `what` says which. Help is not asked for among them.
-pub fn asked_name(i: usize, what: &[u8], usage: &[u8], name: &mut [u8]) -> AskedSite
+pub fn asked_name(rt: &impl Env, i: usize, what: &[u8], usage: &[u8], name: &mut [u8]) -> AskedSite
     ensures { result.count ≤ length name.new }
 {
-    let n = os::arg(i, name);
-    let error = os::errno();
+    let got = rt.arg(i, name);
+    let n = length_of(got, name);
     let asked = asked_by(1, &name[..n]);
-    named(asked, n, error, what, usage, name)
+    named(asked, n, got, what, usage, name)
 }

@@ -4,7 +4,7 @@
 ghost use Rattle.std.specs.Prelude.{◌≤◌};
 ghost use Rattle.io.specs.Counts.{IsPrefixLen};
 
-use libc::STDIN_FILENO;
+use streams::STDIN_FILENO;
 
 // Whether there is one more case, and how many of its bytes stand at the front of the buffer.
 #[derive(Clone, Copy)]

@@ -3,8 +3,8 @@
 
 ghost use Rattle.io.specs.Counts.{IsPrefixLen};
 
-use libc::STDOUT_FILENO;
 use output::Written;
+use streams::STDOUT_FILENO;
 
 // Buffers hold this byte before a call.
 const UNTOUCHED: u8 = 165;

@@ -8,40 +8,42 @@ mod sheet;
 
 ghost use Rattle.io.specs.Counts.{IsPrefixLen};
 
-use libc::STDERR_FILENO;
+use std::env::FillError;
+use std::rt::Env;
+use streams::STDERR_FILENO;
 
 // A byte more than a word may have, so that one that is too long is seen to be.
 const ARGUMENT: usize = word_value::LONGEST_WORD + 1;
 
 // How many bytes of argument i stand in the buffer; of one that is longer, the buffer's length.
-fn argument(i: usize, word: &mut [u8]) -> usize
+fn argument(rt: &impl Env, i: usize, word: &mut [u8]) -> usize
     ensures { IsPrefixLen result word.new }
 {
-    let n = os::arg(i, word);
-    if os::errno() == libc::ENAMETOOLONG {
-        return word.len();
+    match rt.arg(i, word) {
+        Ok(n) => n,
+        Err(FillError::TooLong) => word.len(),
+        Err(FillError::NotPresent) => 0,
     }
-    n
 }
 
-fn print_words(speed: &[u8], grade: &[u8]) {
+fn print_words(rt: &impl Print, speed: &[u8], grade: &[u8]) {
     let mut text = io::large_buffer();
     let n = answer::put_one(&mut text, speed, grade);
-    if site_program::write_front(&text, n) {
+    if site_program::write_front(rt, &text, n) {
         let m = complaint::put_complaint(&mut text, speed, grade);
         site_program::write_error(STDERR_FILENO, &text, m);
     }
 }
 
-fn print_one() {
+fn print_one(rt: &(impl Env + Print)) {
     let mut speed = [0u8; ARGUMENT];
     let mut grade = [0u8; ARGUMENT];
-    let v = argument(1, &mut speed);
-    let s = argument(2, &mut grade);
-    print_words(&speed[..v], &grade[..s]);
+    let v = argument(rt, 1, &mut speed);
+    let s = argument(rt, 2, &mut grade);
+    print_words(rt, &speed[..v], &grade[..s]);
 }
 
-fn print_help() {
+fn print_help(rt: &impl Print) {
     let mut text = io::buffer();
     let p = complaint::put_usage(&mut text, 0);
     let n = text::put_bytes(
@@ -49,7 +51,7 @@ fn print_help() {
         p,
         b"Prints the yellow in seconds for each approach speed, 20 to 80 km/h, and each grade, -80 to 80 per mille in steps of 10.\nDownhill is negative. With SPEED and GRADE it prints that one yellow in ticks and in seconds, as a line for a site's text.\ndocs/FORMATS.md describes both.\n",
     );
-    site_program::write_front(&text, n);
+    site_program::write_front(rt, &text, n);
 }
 
 fn print_wrong_count(count: usize) {
@@ -58,18 +60,18 @@ fn print_wrong_count(count: usize) {
     site_program::write_error(STDERR_FILENO, &text, n);
 }
 
-fn main() {
-    let count = site_program::arguments_given();
+fn main(rt: HostRuntime) {
+    let count = site_program::arguments_given(&rt);
     match count {
-        0 => sheet::print_sheet(),
+        0 => sheet::print_sheet(&rt),
         1 => {
-            if site_program::asks_help() {
-                print_help();
+            if site_program::asks_help(&rt) {
+                print_help(&rt);
             } else {
                 print_wrong_count(count);
             }
         }
-        2 => print_one(),
+        2 => print_one(&rt),
         _ => print_wrong_count(count),
     }
 }

@@ -98,8 +98,8 @@ fn fill_sheet(out: &mut [u8; SHEET])
     put_sheet(out);
 }
 
-pub fn print_sheet() {
+pub fn print_sheet(rt: &impl Print) {
     let mut sheet = [0u8; SHEET];
     fill_sheet(&mut sheet);
-    site_program::write_out(&sheet);
+    site_program::write_out(rt, &sheet);
 }

@@ -12,7 +12,7 @@ use Rattle.yellow_sheet.proofs.answer.put_of_words.Goals as goal
 pub returns-in-Number : goal.returns-in-Number
 returns-in-Number c =
     let z = c.in-Number.v in
-    let e : to_z w64 (of_z w64 z) ≡ z = to_z-of_z (record { sfits = c.in-Number.known_told-1-own.given.0.1 }) in
+    let e : to_z w64 (of_z w64 z) ≡ z = to_z-of_z {w = w64} (record { sfits = c.in-Number.known_told-1-own.given.0.1 }) in
     rw c.in-Number.is (put_as (ap (λ (v : ℤ). answer_at v c.args.grade) e) c.put_at.ensures)
 
 pub returns-in-Empty : goal.returns-in-Empty

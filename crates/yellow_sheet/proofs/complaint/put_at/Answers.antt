@@ -9,7 +9,7 @@ use Rattle.yellow_sheet.proofs.complaint.put_at.Goals as goal
 pub returns-in-Number : goal.returns-in-Number
 returns-in-Number c =
     let z = c.in-Number.s in
-    let e : to_z w64 (of_z w64 z) ≡ z = to_z-of_z (record { sfits = c.in-Number.known_told-1-own.given.0.1 }) in
+    let e : to_z w64 (of_z w64 z) ≡ z = to_z-of_z {w = w64} (record { sfits = c.in-Number.known_told-1-own.given.0.1 }) in
     rw c.in-Number.is (put_as (rw (to_z-of_z c.ranges.v, e)) c.put_ranges.ensures)
 
 pub returns-in-Empty : goal.returns-in-Empty
