@@ -39,8 +39,8 @@ abbrev pub both_days : Site
 both_days = observing (fixed_on 3 31 1 ++ (2 ∷ 3 ∷ 5 ∷ 0 ∷ 0 ∷ []))
 
 -- New Year's Day and the day before it.
-abbrev pub two_in_aRow : Site
-two_in_aRow = observing (fixed_on 12 31 1 ++ fixed_on 1 1 1)
+abbrev pub two_in_a_row : Site
+two_in_a_row = observing (fixed_on 12 31 1 ++ fixed_on 1 1 1)
 
 -- Tenths of the day: noon; and midnight, at which the entry of an earlier day is in force.
 abbrev pub noon : ℕ
@@ -78,7 +78,7 @@ pub record MovedHolidays : Type 0 where
   -- "The move may cross a month or a year." Onto another holiday, it goes no farther.
   pub last_of_2023 : answered new_years_eve 2023 12 31 noon ≡ (0, 0, 1)
   pub first_of_2024 : answered new_years_eve 2024 1 1 noon ≡ (0, 7, 8)
-  pub second_of_2024 : answered two_in_aRow 2024 1 2 noon ≡ (0, 2, 3)
+  pub second_of_2024 : answered two_in_a_row 2024 1 2 noon ≡ (0, 2, 3)
   -- 29 February is a Sunday in four years, 2032 among them; in 2028 it stays, and in 2027, whose 28 February is a Sunday, there is none.
   pub leap_sundays_lem : leap_sundays 2000 100 ≡ (2004 ∷ 2032 ∷ 2060 ∷ 2088 ∷ [])
   pub leap_sunday : answered leap_day 2032 2 29 noon ≡ (0, 0, 1)

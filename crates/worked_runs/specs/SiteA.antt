@@ -37,5 +37,5 @@ slow_site = least_of 2 0 1 100 60
 abbrev pub site_a : Site
 site_a = site_with 2 0
 
-abbrev pub site_aWith_offset : Site
-site_aWith_offset = site_with 2 1
+abbrev pub site_a_with_offset : Site
+site_a_with_offset = site_with 2 1

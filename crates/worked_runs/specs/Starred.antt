@@ -10,7 +10,7 @@ use Rattle.levels.specs.declared.Level.{Level}
 use Rattle.levels.specs.Measures.{totals_of, measures_of}
 use Rattle.levels.specs.Levels.{is_met}
 use Rattle.release.specs.Cycle.{cycle_ticks}
-use Rattle.worked_runs.specs.SiteA.{site_a, site_aWith_offset}
+use Rattle.worked_runs.specs.SiteA.{site_a, site_a_with_offset}
 use Rattle.worked_runs.specs.Run.{metering600, answer_at, releases}
 
 abbrev pub date : ℕ → ℕ → ℕ → Date
@@ -72,4 +72,4 @@ pub record Starred : Type 0 where
   pub lane_1_at_311 : (answer_at site_a metering600 311).shown.colours ≡ 3 ∷ 1 ∷ 0 ∷ 0 ∷ []
   pub released : releases site_a metering600 371 ≡ (311, 1) ∷ (331, 2) ∷ (371, 1) ∷ []
   -- "With fractional offset lane 2 begins at 341."
-  pub released_with_offset : releases site_aWith_offset metering600 371 ≡ (311, 1) ∷ (341, 2) ∷ (371, 1) ∷ []
+  pub released_with_offset : releases site_a_with_offset metering600 371 ≡ (311, 1) ∷ (341, 2) ∷ (371, 1) ∷ []

@@ -5,14 +5,14 @@ use Rattle.site.specs.Named.{timings_of}
 use Rattle.waiting.specs.Bound.{waiting_bound}
 use Rattle.tick.specs.Course.{at_power_up, course_after, accepted_ticks}
 use Rattle.tick.specs.Waiting.{begins_within}
-use Rattle.worked_runs.specs.SiteA.{site_with, least_site, site_a, site_aWith_offset}
+use Rattle.worked_runs.specs.SiteA.{site_with, least_site, site_a, site_a_with_offset}
 use Rattle.worked_runs.specs.Run.{metering600, waits_throughout, calls}
 use Rattle.worked_runs.specs.TwoLanes.{released_last, then_both}
 
 pub record WaitingRuns : Type 0 where
   -- Lane 2 of site A waits from tick 291 on, no cycle exceeds 60, and its green begins at the 41st tick of the run, well before the 80th.
   pub bound_at_60 : waiting_bound (timings_of site_a) 60 ≡ 80
-  pub bound_with_offset : waiting_bound (timings_of site_aWith_offset) 60 ≡ 90
+  pub bound_with_offset : waiting_bound (timings_of site_a_with_offset) 60 ≡ 90
   pub before_metering : accepted_ticks (at_power_up site_a) (calls site_a metering600 290) ≡ 290
   pub begins_at_41 : begins_within 2 41 (course_after (at_power_up site_a) (calls site_a metering600 290)) (calls site_a metering600 80) ≡ true
   pub not_at_40 : begins_within 2 40 (course_after (at_power_up site_a) (calls site_a metering600 290)) (calls site_a metering600 80) ≡ false
