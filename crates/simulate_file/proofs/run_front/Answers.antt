@@ -4,11 +4,11 @@ use Rattle.tick_record.proofs.RecordLaws.{some_record}
 use Rattle.simulate_file.proofs.run_front.Goals as goal
 
 pub taken-n-requires : goal.taken-n-requires
-taken-n-requires c = omega (arith, c.size.ensures, some_record c.shape_of-shape.result.lanes c.shape_of-shape.result.mainline)
+taken-n-requires g c = omega (arith, c.size.ensures, some_record c.shape_of-shape.result.lanes c.shape_of-shape.result.mainline)
 
 pub slice_bounds-run_block-end-2 : goal.slice_bounds-run_block-end-2
-slice_bounds-run_block-end-2 c = sym (length-take-le _ _ (search rules))
+slice_bounds-run_block-end-2 g c = sym (length-take-le _ _ (search rules))
 
 pub returns : goal.returns
-returns c =
+returns g c =
     omega (arith, c.holding.ensures, c.requires, c.move_front.auto.buffer)

@@ -5,7 +5,7 @@ use Rattle.replay_lines.specs.Replay.{longest_answer}
 use Rattle.replay_file.proofs.ticks.replay_at.Given as goal
 
 abbrev pub invariant-loop-left : goal.invariant-loop-left
-invariant-loop-left l = longest_answer ≤ length l.out
+invariant-loop-left g l = longest_answer ≤ length l.out
 
 abbrev pub decreases-loop-left : goal.decreases-loop-left
-decreases-loop-left l = l.left
+decreases-loop-left g l = l.left
