@@ -7,7 +7,8 @@ use Rattle.replay_file.proofs.ticks.take_all.Goals as goal
 pub loop-from-preserved : goal.loop-from-preserved
 loop-from-preserved g c =
     let all = c.args.bytes.now in
-    let from = c.loop-from.from in
-    (omega (arith, c.loop-from.invariant.0, length-drop from all, rw (rest all from) at c.take-taken.ensures.part),
-    search rules,
-    part_taken c.args.site all from c.take-taken.result.bytes c.loop-from.run c.take-taken.result.run (rw (rest all from) at c.take-taken.ensures.is) ∙ c.loop-from.invariant.2)
+    let from = c.loop-from.from in (
+      omega (arith, c.loop-from.invariant.0, length-drop from all, rw (rest all from) at c.take-taken.ensures.part),
+      search rules,
+      part_taken c.args.site all from c.take-taken.result.bytes c.loop-from.run c.take-taken.result.run (rw (rest all from) at c.take-taken.ensures.is) ∙ c.loop-from.invariant.2,
+    )
