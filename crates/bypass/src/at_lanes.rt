@@ -11,10 +11,7 @@ use timings::Timings;
 fn place(t: Timings) -> u16
     ensures { result ≡ place_of t }
 {
-    if t.priority == 0 {
-        return 0;
-    }
-    t.priority - 1
+    t.priority.saturating_sub(1)
 }
 
 fn priority_lane(t: Timings, s: Lanes) -> Lane
@@ -76,14 +73,11 @@ fn other_not_red(t: Timings, s: Lanes, i: u16) -> bool
 fn others_red(t: Timings, s: Lanes) -> bool
     ensures { result ≡ others_red t s }
 {
-    let mut i: u16 = 0;
-    while i < t.lanes {
-        if other_not_red(t, s, i) {
-            return false;
-        }
-        i += 1;
-    }
-    true
+    !(0..t.lanes).any(
+        |i|
+            requires { i ≤ 65534 }
+        { other_not_red(t, s, i) },
+    )
 }
 
 // The lane that a bypass releases, or 0: whatever the cycle, the offset and the demands are.

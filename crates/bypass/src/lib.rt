@@ -12,7 +12,7 @@ pub use at_lanes::{does, endings, has_passed, released};
 use inputs::CALLED;
 use timings::Timings;
 
-// What is kept of a bypass.
+// What is kept of a bypass. It is no Option: a damaged state may have a timer without a bypass, which the check of a state (13) is told.
 #[derive(Clone, Copy)]
 pub struct Bypass {
     // one waits or runs
@@ -40,11 +40,7 @@ pub const LONGEST_TIMER: u16 = 2550;
 fn later(timer: u16) -> u16
     ensures { result ≡ later_of timer }
 {
-    if timer < LONGEST_TIMER {
-        timer + 1
-    } else {
-        LONGEST_TIMER
-    }
+    timer.saturating_add(1).min(LONGEST_TIMER)
 }
 
 // Whether the timeout has come, in seconds; 0 never does.

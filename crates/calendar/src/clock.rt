@@ -11,17 +11,13 @@ pub struct Clock {
     pub tenth: u32,
 }
 
-// No such date or tenth.
-pub const BAD_CLOCK: u8 = 8;
-
 pub const LAST_TENTH: u32 = 863999;
 
 // Whether there is no such date or tenth.
 pub fn clock_bad(clock: Clock) -> bool
     ensures { result ≡ clock_bad clock }
 {
-    let date = clock.date;
-    if !crate::day::is_date(date) {
+    if !crate::day::is_date(clock.date) {
         return true;
     }
     LAST_TENTH < clock.tenth

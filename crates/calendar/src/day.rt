@@ -5,7 +5,7 @@ ghost use Rattle.calendar.specs.Days.{in_month, yesterday_of};
 
 use numbers::Range;
 
-#[derive(Clone, Copy)]
+#[derive(Clone, Copy, PartialEq, Eq)]
 pub struct Date {
     pub year: u16,
     pub month: u16,
@@ -101,12 +101,6 @@ pub fn is_date(date: Date) -> bool
     numbers::within(days(date.year, date.month), date.day)
 }
 
-fn year_before(year: u16) -> u16
-    ensures { result ≡ year - 1 }
-{
-    if year == 0 { 0 } else { year - 1 }
-}
-
 // The last day of a month.
 fn last_of(year: u16, month: u16) -> Date
     ensures { result ≡ last_of year month }
@@ -132,7 +126,7 @@ pub fn day_before(date: Date) -> Date
     if 1 < date.month {
         return last_of(date.year, date.month - 1);
     }
-    last_of(year_before(date.year), DECEMBER)
+    last_of(date.year.saturating_sub(1), DECEMBER)
 }
 
 // Days from 1 January 2000.

@@ -9,9 +9,10 @@ ghost use Rattle.calendar.specs.Dates.{is_date};
 ghost use Rattle.calendar.specs.Holidays.{row_of, is_fixed, is_moving, in_week, is_named, is_holiday, day_type_of};
 ghost use Rattle.calendar.specs.Named.{Typed};
 
-pub use clock::{BAD_CLOCK, Clock, LAST_TENTH, clock_bad};
+pub use clock::{Clock, LAST_TENTH, clock_bad};
 use day::Day;
 pub use day::{Date, MONTHS, YEARS, day_before, days, is_date};
+use numbers::Rows;
 
 // The day type of a holiday; those of the other days are their weekdays, 0 Sunday to 6 Saturday.
 pub const HOLIDAY: u16 = 7;
@@ -19,7 +20,7 @@ pub const HOLIDAY: u16 = 7;
 // What stands for the day type where there is no such date.
 pub const NO_DAY: u16 = 8;
 
-// The three kinds of holidays.
+// The three kinds of holidays, as numbers: a site record may come with any, and `day_type` answers at each.
 const FIXED: u16 = 1;
 
 const FLOATING: u16 = 2;
@@ -128,24 +129,17 @@ fn is_named(today: Day, yesterday: Day, row: Row) -> bool
     false
 }
 
-// Whether one of the first `count` rows names today.
-fn is_holiday(today: Day, yesterday: Day, rows: &[u16], count: u16) -> bool
-    ensures { result ≡ is_holiday today yesterday rows.now count }
+// Whether one of the rows that count names today.
+fn is_holiday(today: Day, yesterday: Day, holidays: Rows) -> bool
+    ensures { result ≡ is_holiday today yesterday holidays.entry.numbers.now holidays.entry.count }
 {
-    let mut left = count;
-    while 0 < left {
-        left -= 1;
-        if is_named(today, yesterday, row_at(rows, left)) {
-            return true;
-        }
-    }
-    false
+    (0..holidays.count).any(|i| is_named(today, yesterday, row_at(holidays.numbers, i)))
 }
 
 // The day type of a date at a site with these holidays.
-pub fn day_type(date: Date, rows: &[u16], count: u16) -> u16
-    ensures is { result ≡ day_type_of date rows.now count }
-    ensures named { is_date date ≡ true → Typed date rows.now count result }
+pub fn day_type(date: Date, holidays: Rows) -> u16
+    ensures is { result ≡ day_type_of date holidays.entry.numbers.now holidays.entry.count }
+    ensures named { is_date date ≡ true → Typed date holidays.entry.numbers.now holidays.entry.count result }
 {
     if !is_date(date) {
         return NO_DAY;
@@ -153,7 +147,7 @@ pub fn day_type(date: Date, rows: &[u16], count: u16) -> u16
     let weekday = day::weekday(date);
     let today = day::in_month(date, weekday);
     let yesterday = day::yesterday(date, weekday);
-    if is_holiday(today, yesterday, rows, count) {
+    if is_holiday(today, yesterday, holidays) {
         return HOLIDAY;
     }
     weekday

@@ -6,6 +6,7 @@ mod tally;
 mod walk;
 
 use calendar::Date;
+use numbers::Rows;
 use tally::Tally;
 use walk::{Place, Row};
 
@@ -29,26 +30,18 @@ struct Stand {
     tally: Tally,
 }
 
-fn truth(b: bool) -> u16 {
-    if b { 1 } else { 0 }
-}
-
 // Row k of this kind.
 fn row_of(kind: u16, moves: u16, k: u16) -> Row {
-    if kind == 1 {
-        return Row {
-            kind,
-            month: k / 35 + 1,
-            nth: k % 35 + 1,
-            weekday: 0,
-            moves,
-        };
-    }
+    let (nth, weekday) = if kind == 1 {
+        (k % 35 + 1, 0)
+    } else {
+        (k / 7 % 5 + 1, k % 7)
+    };
     Row {
         kind,
         month: k / 35 + 1,
-        nth: k / 7 % 5 + 1,
-        weekday: k % 7,
+        nth,
+        weekday,
         moves,
     }
 }
@@ -67,12 +60,16 @@ fn list_row(list: &[u16], i: u16) -> Row {
 // The calendar's answer with this row alone.
 fn day_type(date: Date, row: Row) -> u16 {
     let rows = [row.kind, row.month, row.nth, row.weekday, row.moves];
-    calendar::day_type(date, &rows, 1)
+    let alone = Rows {
+        numbers: &rows,
+        count: 1,
+    };
+    calendar::day_type(date, alone)
 }
 
 // Whether there is such a date.
 fn check_date(date: Date, due: u16, tally: Tally) -> Tally {
-    let mut t = tally::compared(tally, date, truth(calendar::is_date(date)), due);
+    let mut t = tally::compared(tally, date, u16::from(calendar::is_date(date)), due);
     t.dates = tally::one_more(t.dates);
     t
 }
@@ -99,8 +96,11 @@ fn check_no_date(year: u16, month: u16, day: u16, tally: Tally) -> Tally {
 
 // Without holidays.
 fn check_plain(date: Date, today: Place, tally: Tally) -> Tally {
-    let rows = [0u16; 5];
-    let came = calendar::day_type(date, &rows, 0);
+    let none = Rows {
+        numbers: &[],
+        count: 0,
+    };
+    let came = calendar::day_type(date, none);
     let mut t = tally::compared(tally, date, came, today.weekday);
     t.plain = tally::one_more(t.plain);
     t
@@ -139,7 +139,11 @@ fn check_lists(date: Date, today: Place, yesterday: Place, tally: Tally) -> Tall
     let mut t = tally;
     let mut due = today.weekday;
     for count in 0..COUNTS {
-        let came = calendar::day_type(date, &list, count);
+        let rows = Rows {
+            numbers: &list,
+            count,
+        };
+        let came = calendar::day_type(date, rows);
         t = tally::compared(t, date, came, due);
         t.lists = tally::one_answer(t.lists, came == calendar::HOLIDAY);
         if walk::names(list_row(&list, count), today, yesterday) {
@@ -177,13 +181,10 @@ fn past_day(today: Place, stand: Stand) -> Stand {
         month: today.month,
         day: today.day,
     };
-    let yesterday = stand.yesterday;
-    let before = stand.tally;
-    let tally = check_day(date, today, yesterday, before);
     Stand {
         weekday: walk::next_weekday(stand.weekday),
         yesterday: today,
-        tally,
+        tally: check_day(date, today, stand.yesterday, stand.tally),
     }
 }
 
@@ -204,25 +205,21 @@ fn past_days(year: u16, month: u16, length: u16, stand: Stand) -> Stand {
 fn past_month(year: u16, month: u16, leap: bool, stand: Stand) -> Stand {
     let length = walk::month_days(month, leap);
     let mut s = past_days(year, month, length, stand);
-    let before = s.tally;
-    let zero = check_no_date(year, month, 0, before);
-    let too_far = check_no_date(year, month, std::num::wrapping_add_u16(length, 1), zero);
-    let most = check_no_date(year, month, 65535, too_far);
-    s.tally = most;
+    let zero = check_no_date(year, month, 0, s.tally);
+    let too_far = check_no_date(year, month, length.wrapping_add(1), zero);
+    s.tally = check_no_date(year, month, 65535, too_far);
     s
 }
 
 // A year's months, and months that it does not have.
 fn past_year(year: u16, leap: bool, stand: Stand) -> Stand {
     let mut s = stand;
-    for month in 1..13u16 {
+    for month in 1..=12 {
         s = past_month(year, month, leap, s);
     }
-    let before = s.tally;
-    let zero = check_no_date(year, 0, 1, before);
+    let zero = check_no_date(year, 0, 1, s.tally);
     let too_far = check_no_date(year, 13, 1, zero);
-    let most = check_no_date(year, 65535, 1, too_far);
-    s.tally = most;
+    s.tally = check_no_date(year, 65535, 1, too_far);
     s
 }
 
@@ -239,7 +236,7 @@ fn check_no_year(year: u16, tally: Tally) -> Tally {
 fn check_years(stand: Stand) -> Tally {
     let mut s = stand;
     let mut since_leap: u16 = 0;
-    for year in 2000..2100u16 {
+    for year in 2000..=2099 {
         s = past_year(year, since_leap == 0, s);
         since_leap = if since_leap < 3 { since_leap + 1 } else { 0 };
     }

@@ -60,7 +60,7 @@ pub fn new() -> Tally {
 }
 
 pub fn one_more(count: u64) -> u64 {
-    std::num::wrapping_add_u64(count, 1)
+    count.wrapping_add(1)
 }
 
 // One more day type, which is Holiday or not.

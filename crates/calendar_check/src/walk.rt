@@ -64,7 +64,7 @@ pub fn raised(seen: Weekdays, weekday: u16) -> Weekdays {
     let mut s = seen;
     let i = weekday as usize;
     if i < 7 {
-        s.times[i] = std::num::wrapping_add_u16(s.times[i], 1);
+        s.times[i] = s.times[i].wrapping_add(1);
     }
     s
 }
@@ -110,8 +110,7 @@ pub fn is_fixed(row: Row, place: Place) -> bool {
 
 // A fixed date that moves: never a Sunday, and on a Monday also yesterday's date.
 fn is_moving(row: Row, today: Place, yesterday: Place) -> bool {
-    let weekday = today.weekday;
-    match weekday {
+    match today.weekday {
         0 => false,
         1 => is_fixed(row, today) | is_fixed(row, yesterday),
         _ => is_fixed(row, today),
@@ -141,8 +140,7 @@ fn is_floating(row: Row, place: Place) -> bool {
 
 // Whether the row makes today a holiday.
 pub fn names(row: Row, today: Place, yesterday: Place) -> bool {
-    let kind = row.kind;
-    match kind {
+    match row.kind {
         1 => is_dated(row, today, yesterday),
         2 => is_floating(row, today),
         3 => is_floating(row, yesterday),

@@ -4,8 +4,7 @@
 // at 71. From 115 on stand thirty doubles, each as the four numbers of its bits, the highest first:
 // each mainline lane's latest and slowest speed of the open period, and at 163 those of the completed
 // one; at 211 each lane's last measured speed of the periods before that one.
-ghost use Rattle.std.specs.Prelude.{◌≡◌, ◌≤◌, length};
-ghost use Rattle.tick_row.specs.Row.{longest_row};
+ghost use Rattle.std.specs.Prelude.{ℕ, ◌+◌, ◌*◌, ◌≤◌};
 
 use bypass::Bypass;
 use calendar::Clock;
@@ -15,6 +14,7 @@ use lanes::Lanes;
 use period::{Counts, Periods};
 use state::State;
 use tick::Input;
+use timings::Shape;
 
 fn long(high: u16, low: u16) -> u32 {
     (high as u32) * 65536 + (low as u32)
@@ -27,91 +27,67 @@ fn long_at(op: &[u8], i: usize) -> u32
     long(numbers::word(op, i), numbers::word(op, i + 1))
 }
 
-fn four(op: &[u8], at: usize) -> [u16; 4]
-    requires { at ≤ 200 }
+// The numbers from number `at` on; of a shorter operation those behind it too.
+fn words<const N: usize>(op: &[u8], at: usize) -> [u16; N]
+    requires { at + N ≤ 240 }
 {
-    [
-        numbers::word(op, at),
-        numbers::word(op, at + 1),
-        numbers::word(op, at + 2),
-        numbers::word(op, at + 3),
-    ]
+    let mut words = [0u16; N];
+    for i in 0..N {
+        words[i] = numbers::word(op, at + i);
+    }
+    words
 }
 
-fn six(op: &[u8], at: usize) -> [u16; 6]
-    requires { at ≤ 200 }
+// What is read for each of six lanes, from number `at` on, a lane's so many numbers behind those of
+// the lane before.
+fn six<T, F: Fn(usize) -> T>(read: F, at: usize, step: usize) -> [T; 6]
+    requires place { at ≤ 240 }
+    requires steps { step ≤ 8 }
+    requires reads { (i : ℕ) → i ≤ at + 5 * step → F.pre read i }
 {
     [
-        numbers::word(op, at),
-        numbers::word(op, at + 1),
-        numbers::word(op, at + 2),
-        numbers::word(op, at + 3),
-        numbers::word(op, at + 4),
-        numbers::word(op, at + 5),
-    ]
-}
-
-fn six_long(op: &[u8], at: usize) -> [u32; 6]
-    requires { at ≤ 150 }
-{
-    [
-        long_at(op, at),
-        long_at(op, at + 2),
-        long_at(op, at + 4),
-        long_at(op, at + 6),
-        long_at(op, at + 8),
-        long_at(op, at + 10),
+        read(at),
+        read(at + step),
+        read(at + 2 * step),
+        read(at + 3 * step),
+        read(at + 4 * step),
+        read(at + 5 * step),
     ]
 }
 
 // Ticks.
 
-// The numbers of a row that begins at number `at`; of a shorter row those behind it too.
-fn row(op: &[u8], at: usize) -> [u16; tick_row::LONGEST_ROW]
-    requires { at ≤ 200 }
-    ensures { longest_row ≡ length result }
-{
-    let mut row = [0u16; tick_row::LONGEST_ROW];
-    let mut i: usize = 0;
-    while i < tick_row::LONGEST_ROW {
-        row[i] = numbers::word(op, at + i);
-        i += 1;
-    }
-    row
-}
-
 // The input of the first tick: a row of four and six lanes, so that samples beyond a site's lanes
 // are sent too.
 pub fn of_tick(op: &[u8]) -> Input {
-    let row = row(op, 2);
-    tick_row::input_of(&row, 4, 6)
+    let row: [u16; tick_row::LONGEST_ROW] = words(op, 2);
+    let most = Shape {
+        lanes: 4,
+        mainline: 6,
+        priority: 0,
+    };
+    tick_row::input_of(&row, most)
 }
 
 // The clock and the commands of a decision: a row of no lanes.
 pub fn of_decision(op: &[u8]) -> Input {
-    let row = row(op, 1);
-    tick_row::input_of(&row, 0, 0)
+    let row: [u16; tick_row::LONGEST_ROW] = words(op, 1);
+    let none = Shape {
+        lanes: 0,
+        mainline: 0,
+        priority: 0,
+    };
+    tick_row::input_of(&row, none)
 }
 
 // The same so many ticks later.
 pub fn later(input: Input, ticks: u16) -> Input {
-    let clock = input.clock;
-    let date = clock.date;
-    let lanes = input.lanes;
-    let main = input.main;
-    let calls = input.calls;
-    let manual = input.manual;
-    let centre = input.centre;
     Input {
         clock: Clock {
-            date,
-            tenth: std::num::wrapping_add_u32(clock.tenth, ticks as u32),
+            tenth: std::num::wrapping_add_u32(input.clock.tenth, ticks as u32),
+            ..input.clock
         },
-        lanes,
-        main,
-        calls,
-        manual,
-        centre,
+        ..input
     }
 }
 
@@ -119,10 +95,10 @@ pub fn later(input: Input, ticks: u16) -> Input {
 
 fn lanes(op: &[u8]) -> Lanes {
     Lanes {
-        colours: four(op, 3),
-        ages: four(op, 7),
-        counters: four(op, 11),
-        passages: four(op, 15),
+        colours: words(op, 3),
+        ages: words(op, 7),
+        counters: words(op, 11),
+        passages: words(op, 15),
         offset: numbers::word(op, 19),
         last: numbers::word(op, 20),
     }
@@ -147,13 +123,13 @@ fn counts(op: &[u8], at: usize) -> Counts
     requires { at ≤ 71 }
 {
     Counts {
-        passages: four(op, at),
-        greens: four(op, at + 4),
-        worked: six(op, at + 8),
-        vehicles: six(op, at + 14),
-        occupied: six(op, at + 20),
-        timed: six(op, at + 26),
-        millis: six_long(op, at + 32),
+        passages: words(op, at),
+        greens: words(op, at + 4),
+        worked: words(op, at + 8),
+        vehicles: words(op, at + 14),
+        occupied: words(op, at + 20),
+        timed: words(op, at + 26),
+        millis: six(|i| long_at(op, i), at + 32, 2),
     }
 }
 
@@ -175,31 +151,11 @@ fn speeds_at(op: &[u8], i: usize) -> Speeds
     }
 }
 
-fn six_speeds(op: &[u8], at: usize) -> [Speeds; 6]
-    requires { at ≤ 170 }
-{
-    [
-        speeds_at(op, at),
-        speeds_at(op, at + 8),
-        speeds_at(op, at + 16),
-        speeds_at(op, at + 24),
-        speeds_at(op, at + 32),
-        speeds_at(op, at + 40),
-    ]
-}
-
 fn kept_speeds(op: &[u8]) -> KeptSpeeds {
     KeptSpeeds {
-        current: six_speeds(op, 115),
-        last: six_speeds(op, 163),
-        earlier: [
-            double_at(op, 211),
-            double_at(op, 215),
-            double_at(op, 219),
-            double_at(op, 223),
-            double_at(op, 227),
-            double_at(op, 231),
-        ],
+        current: six(|i| speeds_at(op, i), 115, 8),
+        last: six(|i| speeds_at(op, i), 163, 8),
+        earlier: six(|i| double_at(op, i), 211, 4),
     }
 }
 

@@ -20,23 +20,6 @@ fn answer(case: &[u8]) {
     run::answer_case(&rest[..n], &rest[n..]);
 }
 
-// Whether there was one more case.
-fn answer_next() -> bool {
-    let mut buffer = io::large_buffer();
-    let case = test_input::next_case(&mut buffer);
-    if case.more {
-        let n = case.count;
-        answer(&buffer[..n]);
-    }
-    case.more
-}
-
 fn main() {
-    let mut left: u32 = 65536;
-    while 0 < left {
-        if !answer_next() {
-            return;
-        }
-        left -= 1;
-    }
+    test_input::answer_all(&mut io::large_buffer(), answer);
 }

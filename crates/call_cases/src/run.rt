@@ -41,24 +41,19 @@ const RECORDS_FROM: usize = 6;
 
 // The state is that of power-up at the present site.
 fn power_up(mut run: Run) -> Run {
-    let site = run.site;
-    let powered = tick::power_up(site);
-    let state = powered.state;
+    let powered = tick::power_up(run.site);
     print::powered(powered.refusal);
-    print::state(state);
-    run.state = state;
+    print::state(powered.state);
+    run.state = powered.state;
     run
 }
 
 // Prints a tick that releases a lane, and one whose line differs from the line before.
 fn print_tick(number: u16, ticked: Ticked, before: Line) -> Line {
     let line = print::line_of(ticked);
-    if ticked.released == 0 {
-        if print::same(line, before) {
-            return line;
-        }
+    if ticked.released != 0 || line != before {
+        print::ticked(number, line);
     }
-    print::ticked(number, line);
     line
 }
 
@@ -66,42 +61,36 @@ fn print_tick(number: u16, ticked: Ticked, before: Line) -> Line {
 fn run_ticks(site: Site, first: State, count: u16, input: Input) -> State {
     let mut state = first;
     let mut line = print::no_line();
-    let mut done: u16 = 0;
-    while done < count {
+    for done in 0..count {
         let ticked = tick::tick(site, state, input::later(input, done));
-        done += 1;
-        line = print_tick(done, ticked, line);
+        let printed = print_tick(done + 1, ticked, line);
+        line = printed;
         state = ticked.state;
     }
     state
 }
 
 fn ticks(mut run: Run, op: &[u8]) -> Run {
-    let site = run.site;
-    let before = run.state;
-    let after = run_ticks(site, before, numbers::word(op, 1), input::of_tick(op));
-    print::state(after);
-    run.state = after;
+    let count = numbers::word(op, 1);
+    run.state = run_ticks(run.site, run.state, count, input::of_tick(op));
+    print::state(run.state);
     run
 }
 
 fn replace_state(mut run: Run, op: &[u8]) -> Run {
-    let state = input::state(op);
-    run.state = state;
+    run.state = input::state(op);
     run
 }
 
 fn damage(mut run: Run, op: &[u8]) -> Run {
-    let before = run.site;
+    let section = numbers::word(op, 1);
     let place = numbers::word(op, 2) as usize;
-    let site = site_record::with_number(before, numbers::word(op, 1), place, numbers::word(op, 3));
-    run.site = site;
+    run.site = site_record::with_number(run.site, section, place, numbers::word(op, 3));
     run
 }
 
 fn repair(mut run: Run) -> Run {
-    let given = run.given;
-    run.site = given;
+    run.site = run.given;
     run
 }
 
@@ -111,48 +100,38 @@ fn poll_into(site: Site, state: State, out: &mut [u8]) {
 }
 
 fn poll_now(run: Run, op: &[u8]) -> Run {
-    let site = run.site;
-    let state = run.state;
     let mut buffer = test_output::buffer();
     let end = test_output::front_length(&buffer, numbers::word(op, 1) as usize);
-    poll_into(site, state, &mut buffer[..end]);
+    poll_into(run.site, run.state, &mut buffer[..end]);
     run
 }
 
 fn decide_now(run: Run, op: &[u8]) -> Run {
-    let site = run.site;
-    let state = run.state;
     let input = input::of_decision(op);
-    let clock = input.clock;
-    let manual = input.manual;
-    let centre = input.centre;
-    let decided = decide::decide(site, state, clock, manual, centre);
-    let decision = decided.decision;
-    let timings = site::timings_of(site);
-    print::decided(decided.refusal, decision, timings.vehicles);
+    let decided = decide::decide(run.site, run.state, input.clock, input.manual, input.centre);
+    print::decided(decided, site::timings_of(run.site).vehicles);
     run
 }
 
 fn write_into(site: Site, buffer: &mut [u8], size: usize) {
     let end = test_output::front_length(buffer, size);
     let written = site_writer::write(site, &mut buffer[..end]);
-    print::written(written, test_output::untouched(buffer, written.count));
+    let count = written.unwrap_or(0);
+    print::written(written, test_output::untouched(buffer, count));
 }
 
 fn write_now(run: Run, op: &[u8]) -> Run {
-    let site = run.site;
     let mut buffer = test_output::buffer();
-    write_into(site, &mut buffer, numbers::word(op, 1) as usize);
+    write_into(run.site, &mut buffer, numbers::word(op, 1) as usize);
     run
 }
 
 // The records' ticks; gives the state behind them.
 fn run_into(site: Site, before: State, records: &[u8], out: &mut [u8]) -> State {
     let ran = many_ticks::run(site, before, records, out);
-    let after = ran.state;
     print::ran(ran, out);
-    print::state(after);
-    after
+    print::state(ran.state);
+    ran.state
 }
 
 // All bytes of the records are there: `op_size` has looked.
@@ -161,19 +140,15 @@ fn records(mut run: Run, op: &[u8]) -> Run {
     if op.len() < end {
         return run;
     }
-    let site = run.site;
-    let before = run.state;
     let mut buffer = test_output::buffer();
     let size = test_output::front_length(&buffer, numbers::word(op, 1) as usize);
-    let after = run_into(site, before, &op[RECORDS_FROM..end], &mut buffer[..size]);
-    run.state = after;
+    let bytes = &op[RECORDS_FROM..end];
+    run.state = run_into(run.site, run.state, bytes, &mut buffer[..size]);
     run
 }
 
 fn read_now(run: Run) -> Run {
-    let site = run.site;
-    let state = run.state;
-    print::readings(readings::read(site, state));
+    print::readings(readings::read(run.site, run.state));
     run
 }
 
@@ -233,6 +208,7 @@ fn op_size(ops: &[u8]) -> usize
 
 fn run_ops(mut run: Run, ops: &[u8]) {
     let mut at: usize = 0;
+    // each operation has its own size
     while at < ops.len() {
         let op = &ops[at..];
         let size = op_size(op);
@@ -245,16 +221,15 @@ fn run_ops(mut run: Run, ops: &[u8]) {
 }
 
 pub fn answer_case(file: &[u8], ops: &[u8]) {
-    let read = site_reader::read(file);
-    if read.refusal != 0 {
-        test_output::print_refusal(read.refusal, read.place);
-        return;
+    match site_reader::read(file) {
+        Ok(site) => run_ops(
+            Run {
+                given: site,
+                site,
+                state: state::zero(),
+            },
+            ops,
+        ),
+        Err(misread) => test_output::print_refusal(misread.refusal, misread.place),
     }
-    let site = read.site;
-    let run = Run {
-        given: site,
-        site,
-        state: state::zero(),
-    };
-    run_ops(run, ops);
 }

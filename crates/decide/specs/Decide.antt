@@ -1,5 +1,7 @@
 -- Document 01, 'Day and entry', 'What is wanted', 'Refusals': what a clock and two commands decide at a site and a state, or why nothing.
-use Rattle.std.specs.Prelude.{ℕ, Bool, cond, eqb}
+use Rattle.std.specs.Prelude.{Bool, cond, Option, Some, None, Result, Ok, Err}
+use Rattle.refusals.specs.declared.Refusal.{Refusal}
+use Rattle.refusals.specs.declared.Refusal.TheVariants.{BadClock, BadCommand, SpoiltState, SpoiltSite}
 use Rattle.site.specs.declared.Site.{Site}
 use Rattle.site.specs.Record.{spoilt_site}
 use Rattle.site.specs.Named.{shape_of}
@@ -7,20 +9,29 @@ use Rattle.calendar.specs.declared.clock.Clock.{Clock}
 use Rattle.calendar.specs.Clock.{clock_bad}
 use Rattle.inputs.specs.declared.Command.{Command}
 use Rattle.inputs.specs.Commands.{commands_bad}
+use Rattle.wanted.specs.declared.Decision.{Decision}
 use Rattle.wanted.specs.Decision.{decision_of, no_decision}
 use Rattle.state.specs.declared.State.{State}
 use Rattle.state.specs.State.{state_spoilt}
-use Rattle.decide.specs.declared.Decided.{Decided}
 
--- The number of the first check that refuses, in the order of a tick: 14, 13, 8, 10. 0 for none.
-unfoldable pub first_refusal : Bool → Bool → Bool → Bool → ℕ
-first_refusal site state clock commands = cond site 14 (cond state 13 (cond clock 8 (cond commands 10 0)))
+-- The first check that refuses, in the order of a tick: 14, 13, 8, 10.
+unfoldable pub first_refusal : Bool → Bool → Bool → Bool → Option Refusal
+first_refusal site state clock commands =
+    cond site (Some SpoiltSite) (cond state (Some SpoiltState) (cond clock (Some BadClock) (cond commands (Some BadCommand) None)))
 
-unfoldable pub refusal_of : Site → State → Clock → Command → Command → ℕ
+unfoldable pub refusal_of : Site → State → Clock → Command → Command → Option Refusal
 refusal_of x s clock manual centre = first_refusal (spoilt_site x) (state_spoilt s (shape_of x)) (clock_bad clock) (commands_bad manual centre)
 
-unfoldable pub decided_of : Site → State → Clock → Command → Command → Decided
-decided_of x s clock manual centre = record {
-  refusal = refusal_of x s clock manual centre;
-  decision = cond (eqb (refusal_of x s clock manual centre) 0) (decision_of x clock manual centre s.periods) no_decision;
-}
+-- A decision, where the checks do not refuse it. Crate many_ticks says the same of an input: what both crates use is about sites and states, not
+-- about answers.
+unfoldable pub unless : Option Refusal → Decision → Result Decision Refusal
+unless None decision = Ok decision
+unless (Some refusal) decision = Err refusal
+
+unfoldable pub decided_of : Site → State → Clock → Command → Command → Result Decision Refusal
+decided_of x s clock manual centre = unless (refusal_of x s clock manual centre) (decision_of x clock manual centre s.periods)
+
+-- The decision given: of a refused question nothing is decided, as of a refused tick.
+abbrev pub decision_given : Result Decision Refusal → Decision
+decision_given (Ok decision) = decision
+decision_given (Err refusal) = no_decision

@@ -1,6 +1,11 @@
 -- Which calls no check refuses, and when the one in turn is polled again.
+use Rattle.refusals.proofs.NoneLaws.{no_refusal, accepted_test, refused_test, some_none}
+use Rattle.std.specs.Option.{is_none}
+use Rattle.std.specs.Prelude.{Option, Some, None}
+use Rattle.refusals.specs.declared.Refusal.{Refusal}
+use Rattle.refusals.specs.declared.Refusal.TheVariants.{SpoiltState, BadNumber}
 use Prim.Native.Nat.{ℕ, zero, suc, ◌≤◌, ◌<◌}
-use mathlib.Core.Path.{◌≡◌, refl}
+use mathlib.Core.Path.{◌≡◌, refl, sym, ◌∙◌}
 use mathlib.Core.Bool.{true}
 use mathlib.Core.Logic.{inl, inr}
 use native.Mathlib.Omega.{arith}
@@ -18,9 +23,9 @@ positive (suc n) h = omega arith
 
 -- What a call knows of its desk and its number.
 pub data Checked (d : Desk) (most number : ℕ) : Type 0 where
-  spoilt : Spoilt d → refusal_of d most number ≡ 13 → Checked d most number
-  above : InRange d → most < number → refusal_of d most number ≡ 18 → Checked d most number
-  fits : InRange d → number ≤ most → refusal_of d most number ≡ 0 → Checked d most number
+  spoilt : Spoilt d → refusal_of d most number ≡ Some SpoiltState → Checked d most number
+  above : InRange d → most < number → refusal_of d most number ≡ Some BadNumber → Checked d most number
+  fits : InRange d → number ≤ most → refusal_of d most number ≡ None → Checked d most number
 
 pub checked : (d : Desk) (most number : ℕ) → Checked d most number
 unfolding refusal_of spoilt_desk
@@ -38,12 +43,12 @@ pub record Passes (d : Desk) (most number : ℕ) : Type 0 where
   pub in_range : InRange d
   pub number_most : number ≤ most
 
-pub passes : (d : Desk) (most number : ℕ) → refusal_of d most number ≡ 0 → Passes d most number
+pub passes : (d : Desk) (most number : ℕ) → refusal_of d most number ≡ None → Passes d most number
 passes d most number e = by (checked d most number)
   where
     by : Checked d most number → Passes d most number
-    by (spoilt s is) = absurd (omega (arith, is, e))
-    by (above r m is) = absurd (omega (arith, is, e))
+    by (spoilt s is) = absurd (some_none (sym is ∙ e))
+    by (above r m is) = absurd (some_none (sym is ∙ e))
     by (fits r m is) = record { in_range = r; number_most = m }
 
 -- No desk is both.

@@ -1,4 +1,9 @@
 -- The request's sentences leave no other answer: whatever was in turn, one of them fits, and two answers that it fits poll the same cabinet.
+use Rattle.refusals.proofs.NoneLaws.{no_refusal, accepted_test, refused_test, some_none}
+use Rattle.std.specs.Option.{is_none}
+use Rattle.std.specs.Prelude.{Option, Some, None}
+use Rattle.refusals.specs.declared.Refusal.{Refusal}
+use Rattle.refusals.specs.declared.Refusal.TheVariants.{SpoiltState, BadNumber}
 use Prim.Native.Nat.{ℕ, ◌≤◌}
 use mathlib.Core.Path.{◌≡◌, sym, ◌∙◌, ap}
 use mathlib.Core.Bool.{true, false}
@@ -8,7 +13,6 @@ use lib.Dec.{ltb}
 use Rattle.loops.proofs.Cases.{by_test}
 use Rattle.desk.specs.declared.Desk.{Desk}
 use Rattle.desk.specs.declared.DeskTicked.{DeskTicked}
-use Rattle.desk.specs.declared.Polled.TheVariants.{Cabinet}
 use Rattle.desk.specs.InWords.{InRange, PolledAnew, PassesOn, Turned}
 use Rattle.desk.proofs.Sentences.{Sentence, nobody, first, passes_on, once_more, sentence}
 
@@ -29,15 +33,15 @@ module _ (d : Desk) (r x : DeskTicked) where
       (λ f. let up = q.higher r.desk.turn (ltb-true _ _ f) p.anew.enrolled in absurd (omega (arith, up.0, ltb-false d.turn x.desk.turn e)))
       (λ f. let down = p.wraps (ltb-false _ _ f) x.desk.turn q.anew.enrolled in omega (arith, low, down)))
 
-  module _ (ok-r : r.refusal ≡ 0) (ok-x : x.refusal ≡ 0) (kept-r : r.desk.enrolled ≡ d.enrolled) (kept-x : x.desk.enrolled ≡ d.enrolled) where
+  module _ (ok-r : r.refusal ≡ None) (ok-x : x.refusal ≡ None) (kept-r : r.desk.enrolled ≡ d.enrolled) (kept-x : x.desk.enrolled ≡ d.enrolled) where
     same_anew : PolledAnew d r → PolledAnew d x → r.desk.turn ≡ x.desk.turn → r ≡ x
     same_anew p q same =
-        alike (ok-r ∙ sym ok-x) (kept-r ∙ sym kept-x) same (p.tries ∙ sym q.tries) (p.polled ∙ ap Cabinet same ∙ sym q.polled)
+        alike (ok-r ∙ sym ok-x) (kept-r ∙ sym kept-x) same (p.tries ∙ sym q.tries) (p.polled ∙ ap Some same ∙ sym q.polled)
 
     same_passed : PassesOn d r → PassesOn d x → r ≡ x
     same_passed p q = same_anew p.anew q.anew (same_turn p q)
 
-pub turned_once : (d : Desk) (answer : ℕ) (r x : DeskTicked) → InRange d → answer ≤ 1 → r.refusal ≡ 0 → x.refusal ≡ 0
+pub turned_once : (d : Desk) (answer : ℕ) (r x : DeskTicked) → InRange d → answer ≤ 1 → r.refusal ≡ None → x.refusal ≡ None
     → Turned d answer r → Turned d answer x → r ≡ x
 turned_once d answer r x in_range most ok-r ok-x t u = by (sentence d answer in_range most)
   where

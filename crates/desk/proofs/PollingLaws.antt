@@ -1,5 +1,10 @@
 -- Every enrolled cabinet is polled in time. Its rank falls at each accepted tick that does not poll it: of t polls each, those that another
 -- in turn has left, and t for each enrolled cabinet whose turn comes before its own.
+use Rattle.refusals.proofs.NoneLaws.{no_refusal, accepted_test, refused_test, some_none}
+use Rattle.std.specs.Option.{is_none}
+use Rattle.std.specs.Prelude.{Option, Some, None}
+use Rattle.refusals.specs.declared.Refusal.{Refusal}
+use Rattle.refusals.specs.declared.Refusal.TheVariants.{SpoiltState, BadNumber}
 use Prim.Native.Nat.{ℕ, zero, suc, ◌+◌, ◌-◌, ◌*◌, ◌≤◌, ◌<◌}
 use mathlib.Core.Path.{◌≡◌, sym, ◌∙◌, ap}
 use mathlib.Core.Bool.{Bool, true, false, cond, ◌&&◌, true≢false}
@@ -58,7 +63,7 @@ module _ (i : ℕ) (d : Desk) (there : enrolled_at d i ≡ true) where
   own_most : enrolled_below d i + 1 ≤ how_many d
   own_most = omega (arith, own, below_grows d (suc i) 32 (omega (arith, small)))
 
-  -- Cabinet i is not among those before it, nor is another that is in turn.
+  -- Some i is not among those before it, nor is another that is in turn.
   ahead_most : ahead i d + 1 ≤ how_many d
   unfolding ahead
   ahead_most =

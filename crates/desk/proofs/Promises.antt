@@ -1,4 +1,9 @@
 -- What each call promises besides its equation, of whatever equals what the definition gives.
+use Rattle.refusals.proofs.NoneLaws.{no_refusal, accepted_test, refused_test, some_none}
+use Rattle.std.specs.Option.{is_none}
+use Rattle.std.specs.Prelude.{Option, Some, None}
+use Rattle.refusals.specs.declared.Refusal.{Refusal}
+use Rattle.refusals.specs.declared.Refusal.TheVariants.{SpoiltState, BadNumber}
 use Prim.Native.Nat.{ℕ, ◌≤◌}
 use mathlib.Core.Path.{◌≡◌, refl, sym, ◌∙◌, subst}
 use native.Mathlib.Omega.{arith}
@@ -7,7 +12,6 @@ use lib.ListN.{length}
 use Rattle.desk.specs.declared.Desk.{Desk}
 use Rattle.desk.specs.declared.Changed.{Changed}
 use Rattle.desk.specs.declared.DeskTicked.{DeskTicked}
-use Rattle.desk.specs.declared.Polled.TheVariants.{Nobody}
 use Rattle.desk.specs.Desk.{refusal_of, with_cabinet, without_cabinet, enrol_of, remove_of}
 use Rattle.desk.specs.Tick.{refused_of, tick_of}
 use Rattle.desk.specs.InWords.{InRange, Answers, InTurn, Enrols, Removes, Turned, EnrolAnswers, RemoveAnswers, TickAnswers}
@@ -24,20 +28,20 @@ use Rattle.desk.proofs.RemovedLaws.{Up, next_passes}
 use Rattle.desk.proofs.PollingLaws.{polled_in_time}
 
 -- The words of a call follow from what its check gives: a refusal and what is unchanged, or 0 and what is done.
-module _ (d : Desk) (most number refusal : ℕ) (is : refusal ≡ refusal_of d most number) (Unchanged Done : Type 0) where
-  pub answers : ((refusal_of d most number ≡ 0 → ⊥) → Unchanged) → (InRange d → number ≤ most → refusal_of d most number ≡ 0 → Done)
+module _ (d : Desk) (most number : ℕ) (refusal : Option Refusal) (is : refusal ≡ refusal_of d most number) (Unchanged Done : Type 0) where
+  pub answers : ((refusal_of d most number ≡ None → ⊥) → Unchanged) → (InRange d → number ≤ most → refusal_of d most number ≡ None → Done)
       → Answers d most number refusal Unchanged Done
   answers kept done = by (checked d most number)
     where
       by : Checked d most number → Answers d most number refusal Unchanged Done
       by (spoilt s e) = record {
-        spoilt = λ _. (is ∙ e, kept (λ z. omega (arith, z, e)));
+        spoilt = λ _. (is ∙ e, kept (λ z. some_none (sym e ∙ z)));
         above = λ r _. not_both d s r;
         accepted = λ r _. not_both d s r;
       }
       by (above r m e) = record {
         spoilt = λ s. not_both d s r;
-        above = λ _ _. (is ∙ e, kept (λ z. omega (arith, z, e)));
+        above = λ _ _. (is ∙ e, kept (λ z. some_none (sym e ∙ z)));
         accepted = λ _ l. absurd (omega (arith, l, m));
       }
       by (fits r m e) = record {
@@ -47,10 +51,10 @@ module _ (d : Desk) (most number refusal : ℕ) (is : refusal ≡ refusal_of d m
       }
 
 -- Two answers that the words fit are the same, if that holds of two unchanged and of two done.
-once : (d : Desk) (most number refusal refusal' : ℕ) (Unchanged Done Unchanged' Done' A : Type 0)
+once : (d : Desk) (most number : ℕ) (refusal refusal' : Option Refusal) (Unchanged Done Unchanged' Done' A : Type 0)
     → Answers d most number refusal Unchanged Done → Answers d most number refusal' Unchanged' Done'
     → (refusal ≡ refusal' → Unchanged → Unchanged' → A)
-    → (InRange d → number ≤ most → refusal ≡ 0 → refusal' ≡ 0 → Done → Done' → A) → A
+    → (InRange d → number ≤ most → refusal ≡ None → refusal' ≡ None → Done → Done' → A) → A
 once d most number refusal refusal' Unchanged Done Unchanged' Done' A p q same_kept same-done = by (checked d most number)
   where
     by : Checked d most number → A
@@ -59,7 +63,7 @@ once d most number refusal refusal' Unchanged Done Unchanged' Done' A p q same_k
     by (fits r m e) = same-done r m (p.accepted r m).0 (q.accepted r m).0 (p.accepted r m).1 (q.accepted r m).1
 
 -- What follows from the words of a call that holds of its desk.
-kept_or_done : (d : Desk) (most number refusal : ℕ) (Unchanged Done A : Type 0) → Answers d most number refusal Unchanged Done
+kept_or_done : (d : Desk) (most number : ℕ) (refusal : Option Refusal) (Unchanged Done A : Type 0) → Answers d most number refusal Unchanged Done
     → InRange d → (Unchanged → A) → (number ≤ most → Done → A) → A
 kept_or_done d most number refusal Unchanged Done A p in_range kept done = by (checked d most number)
   where
@@ -72,25 +76,25 @@ changed : {x y : Changed} → x.refusal ≡ y.refusal → x.desk ≡ y.desk → 
 changed a b = λ i. record { refusal = a i; desk = b i }
 
 module _ (d : Desk) (k : ℕ) (whole : length d.enrolled ≡ 32) where
-  enrol_kept : (refusal_of d 31 k ≡ 0 → ⊥) → (enrol_of d k).desk ≡ d
+  enrol_kept : (refusal_of d 31 k ≡ None → ⊥) → (enrol_of d k).desk ≡ d
   unfolding enrol_of
-  enrol_kept never = rw (ne_eqb _ _ never)
+  enrol_kept never = rw (refused_test _ never)
 
-  enrol_done : InRange d → k ≤ 31 → refusal_of d 31 k ≡ 0 → Enrols d k (enrol_of d k).desk
+  enrol_done : InRange d → k ≤ 31 → refusal_of d 31 k ≡ None → Enrols d k (enrol_of d k).desk
   unfolding enrol_of
-  enrol_done r m e = rw (eq-eqb _ _ e) (enrols d k m whole)
+  enrol_done r m e = rw (accepted_test _ e) (enrols d k m whole)
 
   enrol_words : EnrolAnswers d k (enrol_of d k)
   unfolding enrol_of
   enrol_words = answers d 31 k _ refl _ _ enrol_kept enrol_done
 
-  remove_kept : (refusal_of d 31 k ≡ 0 → ⊥) → (remove_of d k).desk ≡ d
+  remove_kept : (refusal_of d 31 k ≡ None → ⊥) → (remove_of d k).desk ≡ d
   unfolding remove_of
-  remove_kept never = rw (ne_eqb _ _ never)
+  remove_kept never = rw (refused_test _ never)
 
-  remove_done : InRange d → k ≤ 31 → refusal_of d 31 k ≡ 0 → Removes d k (remove_of d k).desk
+  remove_done : InRange d → k ≤ 31 → refusal_of d 31 k ≡ None → Removes d k (remove_of d k).desk
   unfolding remove_of
-  remove_done r m e = rw (eq-eqb _ _ e) (removes d k m whole)
+  remove_done r m e = rw (accepted_test _ e) (removes d k m whole)
 
   remove_words : RemoveAnswers d k (remove_of d k)
   unfolding remove_of
@@ -145,13 +149,13 @@ module _ (d : Desk) (k : ℕ) (whole : length d.enrolled ≡ 32) where
         ),
       )
 
-tick_kept : (d : Desk) (answer : ℕ) → (refusal_of d 1 answer ≡ 0 → ⊥) → ((tick_of d answer).desk ≡ d) × ((tick_of d answer).polled ≡ Nobody)
+tick_kept : (d : Desk) (answer : ℕ) → (refusal_of d 1 answer ≡ None → ⊥) → ((tick_of d answer).desk ≡ d) × ((tick_of d answer).polled ≡ None)
 unfolding tick_of refused_of
-tick_kept d answer never = rw (ne_eqb _ _ never) (refl, refl)
+tick_kept d answer never = rw (refused_test _ never) (refl, refl)
 
-tick_done : (d : Desk) (answer : ℕ) → refusal_of d 1 answer ≡ 0 → Turned d answer (tick_of d answer)
+tick_done : (d : Desk) (answer : ℕ) → refusal_of d 1 answer ≡ None → Turned d answer (tick_of d answer)
 unfolding is_accepted
-tick_done d answer ok = turned d answer (eq-eqb _ _ (tick_refusal_lem d answer ∙ ok))
+tick_done d answer ok = turned d answer (accepted_test _ (tick_refusal_lem d answer ∙ ok))
 
 tick_words : (d : Desk) (answer : ℕ) → TickAnswers d answer (tick_of d answer)
 tick_words d answer = answers d 1 answer _ (tick_refusal_lem d answer) _ _ (tick_kept d answer) (λ _ _. tick_done d answer)

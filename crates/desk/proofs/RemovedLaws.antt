@@ -1,4 +1,9 @@
 -- A removal of the one in turn leaves three tries, and until the next accepted tick no call changes them, or the turn.
+use Rattle.refusals.proofs.NoneLaws.{no_refusal, accepted_test, refused_test, some_none}
+use Rattle.std.specs.Option.{is_none}
+use Rattle.std.specs.Prelude.{Option, Some, None}
+use Rattle.refusals.specs.declared.Refusal.{Refusal}
+use Rattle.refusals.specs.declared.Refusal.TheVariants.{SpoiltState, BadNumber}
 use Prim.Native.Nat.{ℕ, ◌+◌}
 use mathlib.Core.Path.{◌≡◌, sym, subst}
 use mathlib.Core.Bool.{true, false}
@@ -36,8 +41,8 @@ without_up from d k up =
 
 keeps : (from : ℕ) (d : Desk) (call : Call) → is_accepted_tick d call ≡ false → Up from d → Up from (onward d call)
 unfolding is_accepted_tick enrol_of remove_of
-keeps from d (enrols k) e up = by_test (eqb (refusal_of d 31 k) 0) (λ f. rw f (with_up from d k up)) (λ f. rw f up)
-keeps from d (removes k) e up = by_test (eqb (refusal_of d 31 k) 0) (λ f. rw f (without_up from d k up)) (λ f. rw f up)
+keeps from d (enrols k) e up = by_test (is_none (refusal_of d 31 k)) (λ f. rw f (with_up from d k up)) (λ f. rw f up)
+keeps from d (removes k) e up = by_test (is_none (refusal_of d 31 k)) (λ f. rw f (without_up from d k up)) (λ f. rw f up)
 keeps from d (ticks answer) e up = subst (Up from) (sym (refused_stays d (ticks answer) e)) up
 
 reaches : (from : ℕ) (d : Desk) (calls : List Call) → accepted_ticks d calls ≡ 0 → Up from d → Up from (desk_after d calls)

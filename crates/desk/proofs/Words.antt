@@ -1,4 +1,9 @@
 -- The request's sentences hold of a tick: where the one in turn is not polled once more, the search gives the one that is.
+use Rattle.refusals.proofs.NoneLaws.{no_refusal, accepted_test, refused_test, some_none}
+use Rattle.std.specs.Option.{is_none}
+use Rattle.std.specs.Prelude.{Option, Some, None}
+use Rattle.refusals.specs.declared.Refusal.{Refusal}
+use Rattle.refusals.specs.declared.Refusal.TheVariants.{SpoiltState, BadNumber}
 use Prim.Native.Nat.{ℕ, ◌+◌, ◌-◌, ◌≤◌, ◌<◌}
 use mathlib.Core.Path.{◌≡◌, refl, sym, ◌∙◌, subst}
 use mathlib.Core.Bool.{true, false, true≢false}
@@ -9,7 +14,6 @@ use Rattle.loops.proofs.Cases.{by_test}
 use Rattle.turns.specs.Turn.{first_after}
 use Rattle.desk.specs.declared.Desk.{Desk}
 use Rattle.desk.specs.declared.DeskTicked.{DeskTicked}
-use Rattle.desk.specs.declared.Polled.TheVariants.{Nobody, Cabinet}
 use Rattle.desk.specs.Desk.{enrolled_at, has_place}
 use Rattle.desk.specs.Tick.{is_again, again_of, before_first, polled_at, passed_of, tick_of}
 use Rattle.desk.specs.Calls.{ticks, is_accepted}
@@ -45,7 +49,7 @@ module _ (d : Desk) (turn_most : d.turn ≤ 31) where
   passed_nobody empty = rw (none d (before_first d) least most empty) (record { polled = refl; turn = refl; tries = refl })
 
   module _ (k : ℕ) (there : enrolled_at d k ≡ true) where
-    passed_is : passed_of d ≡ record { refusal = 0; desk = record { enrolled = d.enrolled; turn = place - 1; tries = 1 }; polled = Cabinet (place - 1) }
+    passed_is : passed_of d ≡ record { refusal = None; desk = record { enrolled = d.enrolled; turn = place - 1; tries = 1 }; polled = Some (place - 1) }
     unfolding passed_of polled_at
     passed_is = rw (some d (before_first d) least most k there)
 

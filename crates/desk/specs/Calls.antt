@@ -1,9 +1,9 @@
 -- A list of calls of a desk, refused ones included: each finds the desk that the call before it gave.
-use Rattle.std.specs.Prelude.{ℕ, ◌≡◌, Bool, true, false, ◌&&◌, List, eqb}
+use Rattle.std.specs.Prelude.{ℕ, Option, Some, None, ◌≡◌, Bool, true, false, ◌&&◌, List, eqb}
 use Rattle.runs.specs.Runs.{after, AtEach, accepted_in, happens_within}
 use Rattle.desk.specs.declared.Desk.{Desk}
-use Rattle.desk.specs.declared.Polled.{Polled}
-use Rattle.desk.specs.declared.Polled.TheVariants.{Nobody, Cabinet}
+use Rattle.std.specs.Option.{is_none}
+use Rattle.refusals.specs.declared.Refusal.{Refusal}
 use Rattle.desk.specs.Desk.{enrol_of, remove_of}
 use Rattle.desk.specs.Tick.{tick_of}
 
@@ -13,19 +13,19 @@ pub data Call : Type 0 where
   removes : ℕ → Call
   ticks : ℕ → Call
 
--- The desk after a call, and what refuses the call, or 0.
+-- The desk after a call, and what refuses the call, if anything does.
 abbrev pub onward : Desk → Call → Desk
 onward d (enrols k) = (enrol_of d k).desk
 onward d (removes k) = (remove_of d k).desk
 onward d (ticks answer) = (tick_of d answer).desk
 
-abbrev pub refusal_at : Desk → Call → ℕ
+abbrev pub refusal_at : Desk → Call → Option Refusal
 refusal_at d (enrols k) = (enrol_of d k).refusal
 refusal_at d (removes k) = (remove_of d k).refusal
 refusal_at d (ticks answer) = (tick_of d answer).refusal
 
 unfoldable pub is_accepted : Desk → Call → Bool
-is_accepted d call = eqb (refusal_at d call) 0
+is_accepted d call = is_none (refusal_at d call)
 
 abbrev pub is_tick : Call → Bool
 is_tick (enrols k) = false
@@ -36,9 +36,9 @@ unfoldable pub is_accepted_tick : Desk → Call → Bool
 is_accepted_tick d call = is_tick call && is_accepted d call
 
 -- Cabinet i is the one polled.
-abbrev pub is_cabinet : ℕ → Polled → Bool
-is_cabinet i Nobody = false
-is_cabinet i (Cabinet k) = eqb k i
+abbrev pub is_cabinet : ℕ → Option ℕ → Bool
+is_cabinet i None = false
+is_cabinet i (Some k) = eqb k i
 
 -- Cabinet i is polled at this call.
 abbrev pub polls : ℕ → Desk → Call → Bool

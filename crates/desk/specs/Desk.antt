@@ -1,5 +1,8 @@
 -- Document 02, A14: "The centre's desk polls cabinets 0-31 over one line." The desk, who is enrolled, and what enrolling and removing do.
-use Rattle.std.specs.Prelude.{ℕ, ◌-◌, Bool, true, false, cond, ◌||◌, ltb, eqb, get_or, set, replicate}
+use Rattle.std.specs.Option.{is_none}
+use Rattle.refusals.specs.declared.Refusal.{Refusal}
+use Rattle.refusals.specs.declared.Refusal.TheVariants.{SpoiltState, BadNumber}
+use Rattle.std.specs.Prelude.{ℕ, Option, Some, None, ◌-◌, Bool, true, false, cond, ◌||◌, ltb, eqb, get_or, set, replicate}
 use Rattle.desk.specs.declared.Desk.{Desk}
 use Rattle.desk.specs.declared.Changed.{Changed}
 
@@ -16,12 +19,12 @@ unfoldable pub has_place : Desk → ℕ → Bool
 has_place d place = enrolled_at d (place - 1)
 
 -- "13 for a desk whose turn is above 31 or whose tries exceed 3, then 18. 18: cabinet number above 31, or an answer above 1, an ignored one
--- too."
+-- too." SpoiltState is 13, and BadNumber 18.
 unfoldable pub spoilt_desk : Desk → Bool
 spoilt_desk d = ltb 31 d.turn || ltb 3 d.tries
 
-unfoldable pub refusal_of : Desk → ℕ → ℕ → ℕ
-refusal_of d most number = cond (spoilt_desk d) 13 (cond (ltb most number) 18 0)
+unfoldable pub refusal_of : Desk → ℕ → ℕ → Option Refusal
+refusal_of d most number = cond (spoilt_desk d) (Some SpoiltState) (cond (ltb most number) (Some BadNumber) None)
 
 -- "It can enrol or remove a cabinet; repeating either changes nothing."
 unfoldable pub with_cabinet : Desk → ℕ → Desk
@@ -39,7 +42,7 @@ without_cabinet d cabinet =
 
 -- "Refused, the desk is unchanged."
 unfoldable pub enrol_of : Desk → ℕ → Changed
-enrol_of d cabinet = record { refusal = refusal_of d 31 cabinet; desk = cond (eqb (refusal_of d 31 cabinet) 0) (with_cabinet d cabinet) d }
+enrol_of d cabinet = record { refusal = refusal_of d 31 cabinet; desk = cond (is_none (refusal_of d 31 cabinet)) (with_cabinet d cabinet) d }
 
 unfoldable pub remove_of : Desk → ℕ → Changed
-remove_of d cabinet = record { refusal = refusal_of d 31 cabinet; desk = cond (eqb (refusal_of d 31 cabinet) 0) (without_cabinet d cabinet) d }
+remove_of d cabinet = record { refusal = refusal_of d 31 cabinet; desk = cond (is_none (refusal_of d 31 cabinet)) (without_cabinet d cabinet) d }

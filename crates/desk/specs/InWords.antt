@@ -1,10 +1,11 @@
 -- Document 02's sentences on the desk, in its own words beside the definitions: each call promises those about it, and that no other answer
 -- fits them.
-use Rattle.std.specs.Prelude.{ℕ, ◌+◌, ◌≤◌, ◌<◌, ◌≡◌, true, false, ◌⊎◌}
+use Rattle.std.specs.Prelude.{ℕ, Option, Some, None, ◌+◌, ◌≤◌, ◌<◌, ◌≡◌, true, false, ◌⊎◌}
 use Rattle.desk.specs.declared.Desk.{Desk}
 use Rattle.desk.specs.declared.Changed.{Changed}
 use Rattle.desk.specs.declared.DeskTicked.{DeskTicked}
-use Rattle.desk.specs.declared.Polled.TheVariants.{Nobody, Cabinet}
+use Rattle.refusals.specs.declared.Refusal.{Refusal}
+use Rattle.refusals.specs.declared.Refusal.TheVariants.{SpoiltState, BadNumber}
 use Rattle.desk.specs.Desk.{enrolled_at}
 
 -- "A desk whose turn is above 31 or whose tries exceed 3", and any other.
@@ -16,13 +17,13 @@ pub record InRange (d : Desk) : Type 0 where
   pub tries_most : d.tries ≤ 3
 
 -- What a call answers that is given this desk and a number that may be at most so large.
-pub record Answers (d : Desk) (most number refusal : ℕ) (Unchanged Done : Type 0) : Type 0 where
-  -- "13 for a desk whose turn is above 31 or whose tries exceed 3,
-  pub spoilt : Spoilt d → (refusal ≡ 13) × Unchanged
-  -- then 18"; "refused, the desk is unchanged and nobody is polled".
-  pub above : InRange d → most < number → (refusal ≡ 18) × Unchanged
+pub record Answers (d : Desk) (most number : ℕ) (refusal : Option Refusal) (Unchanged Done : Type 0) : Type 0 where
+  -- "13 for a desk whose turn is above 31 or whose tries exceed 3", which is SpoiltState,
+  pub spoilt : Spoilt d → (refusal ≡ Some SpoiltState) × Unchanged
+  -- "then 18", BadNumber; "refused, the desk is unchanged and nobody is polled".
+  pub above : InRange d → most < number → (refusal ≡ Some BadNumber) × Unchanged
   -- Every other call is accepted.
-  pub accepted : InRange d → number ≤ most → (refusal ≡ 0) × Done
+  pub accepted : InRange d → number ≤ most → (refusal ≡ None) × Done
 
 -- A cabinet is in turn: it is enrolled, and the last accepted tick polled it.
 pub record InTurn (d : Desk) (cabinet : ℕ) : Type 0 where
@@ -50,7 +51,7 @@ pub record Removes (d : Desk) (cabinet : ℕ) (after : Desk) : Type 0 where
 
 -- An enrolled cabinet is polled for the first time running; it is the one in turn.
 pub record PolledAnew (d : Desk) (r : DeskTicked) : Type 0 where
-  pub polled : r.polled ≡ Cabinet r.desk.turn
+  pub polled : r.polled ≡ Some r.desk.turn
   pub tries : r.desk.tries ≡ 1
   pub enrolled : enrolled_at d r.desk.turn ≡ true
 
@@ -63,13 +64,13 @@ pub record PassesOn (d : Desk) (r : DeskTicked) : Type 0 where
 
 -- The one in turn is polled once more.
 pub record OnceMore (d : Desk) (r : DeskTicked) : Type 0 where
-  pub polled : r.polled ≡ Cabinet d.turn
+  pub polled : r.polled ≡ Some d.turn
   pub turn : r.desk.turn ≡ d.turn
   pub tries : r.desk.tries ≡ d.tries + 1
 
 -- Nobody is polled, and none is in turn.
 pub record PollsNobody (r : DeskTicked) : Type 0 where
-  pub polled : r.polled ≡ Nobody
+  pub polled : r.polled ≡ None
   pub turn : r.desk.turn ≡ 0
   pub tries : r.desk.tries ≡ 0
 
@@ -98,4 +99,4 @@ abbrev pub RemoveAnswers : Desk → ℕ → Changed → Type 0
 RemoveAnswers d cabinet r = Answers d 31 cabinet r.refusal (r.desk ≡ d) (Removes d cabinet r.desk)
 
 abbrev pub TickAnswers : Desk → ℕ → DeskTicked → Type 0
-TickAnswers d answer r = Answers d 1 answer r.refusal ((r.desk ≡ d) × (r.polled ≡ Nobody)) (Turned d answer r)
+TickAnswers d answer r = Answers d 1 answer r.refusal ((r.desk ≡ d) × (r.polled ≡ None)) (Turned d answer r)

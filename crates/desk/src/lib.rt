@@ -12,10 +12,7 @@ ghost use Rattle.desk.specs.InWords.{InRange, InTurn, EnrolAnswers, RemoveAnswer
 ghost use Rattle.desk.specs.Removed.{NextPasses};
 ghost use Rattle.desk.specs.Polling.{PolledInTime};
 
-// A desk's turn or tries are out of range; a cabinet's number or an answer is.
-pub const SPOILT_DESK: u8 = 13;
-
-pub const BAD_NUMBER: u8 = 18;
+use refusals::Refusal;
 
 const CABINETS: u8 = 32;
 
@@ -35,26 +32,19 @@ pub struct Desk {
     pub tries: u8,
 }
 
-// Whom a tick polls.
-#[derive(Clone, Copy)]
-pub enum Polled {
-    Nobody,
-    Cabinet(u8),
-}
-
-// What enrolling and removing give: the refusal, or 0, and the desk.
+// What enrolling and removing give: the refusal, if there is one, and the desk, which is there refused too.
 #[derive(Clone, Copy)]
 pub struct Changed {
-    pub refusal: u8,
+    pub refusal: Option<Refusal>,
     pub desk: Desk,
 }
 
-// What a tick gives: the refusal, or 0, the desk, and whom to poll now.
+// What a tick gives: the refusal, if there is one, the desk, and the cabinet to poll now, or nobody.
 #[derive(Clone, Copy)]
 pub struct DeskTicked {
-    pub refusal: u8,
+    pub refusal: Option<Refusal>,
     pub desk: Desk,
-    pub polled: Polled,
+    pub polled: Option<u8>,
 }
 
 // A fresh desk. Whatever calls come, while enrolment is unchanged every enrolled cabinet is polled in time.
@@ -96,17 +86,17 @@ fn spoilt(d: Desk) -> bool
     MOST_TRIES < d.tries
 }
 
-// Which check refuses a call with a number that may be at most this, or 0.
-fn refusal_of(d: Desk, most: u64, number: u64) -> u8
+// Which check refuses a call with a number that may be at most this: the desk's turn or tries are out of range, or the number is.
+fn refusal_of(d: Desk, most: u64, number: u64) -> Option<Refusal>
     ensures { result ≡ refusal_of d most number }
 {
     if spoilt(d) {
-        return SPOILT_DESK;
+        return Some(Refusal::SpoiltState);
     }
     if most < number {
-        return BAD_NUMBER;
+        return Some(Refusal::BadNumber);
     }
-    0
+    None
 }
 
 fn with_cabinet(d: Desk, cabinet: u64) -> Desk
@@ -159,11 +149,11 @@ pub fn enrol(desk: Desk, cabinet: u64) -> Changed
     ensures in_range { InRange desk → InRange result.desk }
 {
     let refusal = refusal_of(desk, LAST_CABINET, cabinet);
-    if refusal != 0 {
+    if refusal.is_some() {
         return Changed { refusal, desk };
     }
     Changed {
-        refusal: 0,
+        refusal,
         desk: with_cabinet(desk, cabinet),
     }
 }
@@ -177,11 +167,11 @@ pub fn remove(desk: Desk, cabinet: u64) -> Changed
     ensures in_range { InRange desk → InRange result.desk }
 {
     let refusal = refusal_of(desk, LAST_CABINET, cabinet);
-    if refusal != 0 {
+    if refusal.is_some() {
         return Changed { refusal, desk };
     }
     Changed {
-        refusal: 0,
+        refusal,
         desk: without_cabinet(desk, cabinet),
     }
 }
@@ -198,13 +188,11 @@ fn first_after(d: Desk, place: u8) -> u8
     ensures { result ≡ first_after (has_place d) 32 place 32 }
 {
     let mut k = place;
-    let mut more = CABINETS;
-    while 0 < more {
+    for _ in 0..CABINETS {
         k = next_place(k);
         if has_place(d, k) {
             return k;
         }
-        more -= 1;
     }
     0
 }
@@ -231,9 +219,9 @@ fn again(d: Desk) -> DeskTicked
     let mut next = d;
     next.tries = d.tries + 1;
     DeskTicked {
-        refusal: 0,
+        refusal: None,
         desk: next,
-        polled: Polled::Cabinet(d.turn),
+        polled: Some(d.turn),
     }
 }
 
@@ -256,17 +244,17 @@ fn passed(d: Desk) -> DeskTicked
         next.turn = 0;
         next.tries = 0;
         return DeskTicked {
-            refusal: 0,
+            refusal: None,
             desk: next,
-            polled: Polled::Nobody,
+            polled: None,
         };
     }
     next.turn = place - 1;
     next.tries = 1;
     DeskTicked {
-        refusal: 0,
+        refusal: None,
         desk: next,
-        polled: Polled::Cabinet(place - 1),
+        polled: Some(place - 1),
     }
 }
 
@@ -279,11 +267,11 @@ pub fn tick(desk: Desk, answer: u64) -> DeskTicked
     ensures polled_in_time { PolledInTime result.desk }
 {
     let refusal = refusal_of(desk, ANSWERED, answer);
-    if refusal != 0 {
+    if refusal.is_some() {
         return DeskTicked {
             refusal,
             desk,
-            polled: Polled::Nobody,
+            polled: None,
         };
     }
     if is_again(desk, answer) {

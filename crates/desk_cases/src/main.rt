@@ -5,7 +5,9 @@
 // desk after it: turn, tries and who is enrolled.
 #![tactic(auto)]
 
-use desk::{Changed, Desk, DeskTicked, Polled};
+use desk::{Changed, Desk, DeskTicked};
+use refusals::Refusal;
+use text::Text;
 
 const BYTE: u16 = 256;
 
@@ -29,11 +31,9 @@ fn byte_at(case: &[u8], i: usize) -> u8 {
 fn with_bits(all: [bool; 32], from: usize, number: u16) -> [bool; 32] {
     let mut enrolled = all;
     let mut bits = number;
-    let mut i = from;
-    while i < 32 {
+    for i in from..32 {
         enrolled[i] = bits % 2 == 1;
         bits = bits / 2;
-        i += 1;
     }
     enrolled
 }
@@ -50,60 +50,70 @@ fn given(case: &[u8]) -> Desk {
 
 // Who is enrolled, cabinet k as bit k.
 fn mask(desk: Desk) -> u64 {
-    let enrolled = desk.enrolled;
     let mut bits: u64 = 0;
-    let mut left: usize = 32;
-    while 0 < left {
-        left -= 1;
+    for enrolled in desk.enrolled.iter().rev() {
         bits = bits % HALF * 2;
-        if enrolled[left] {
+        if *enrolled {
             bits += 1;
         }
     }
     bits
 }
 
-fn print_desk(out: &mut [u8], at: usize, desk: Desk) {
-    let a = phrases::put_blank_and_decimal(out, at, desk.turn as u64);
-    let b = phrases::put_blank_and_decimal(out, a, desk.tries as u64);
-    let c = phrases::put_blank_and_decimal(out, b, mask(desk));
-    let end = text::put_byte(out, c, b'\n');
-    test_output::print(out, end);
+// The desk's numbers, to the end of the line.
+fn put_desk(line: &mut Text, desk: Desk) {
+    phrases::put_blank_and_decimal(line, desk.turn as u64);
+    phrases::put_blank_and_decimal(line, desk.tries as u64);
+    phrases::put_blank_and_decimal(line, mask(desk));
+    line.put_byte(b'\n');
 }
 
-fn print_call(out: &mut [u8], name: &[u8], number: u64, refusal: u8) -> usize {
-    let a = text::put_bytes(out, 0, name);
-    let b = phrases::put_blank_and_decimal(out, a, number);
-    phrases::put_blank_and_decimal(out, b, refusal as u64)
+// A refusal's number; 0 where there is none.
+fn number_of(refusal: Option<Refusal>) -> u8 {
+    match refusal {
+        Some(refusal) => refusal.number(),
+        None => 0,
+    }
 }
 
-fn put_polled(out: &mut [u8], at: usize, polled: Polled) -> usize {
+fn put_call(line: &mut Text, name: &[u8], number: u64, refusal: Option<Refusal>) {
+    line.put(name);
+    phrases::put_blank_and_decimal(line, number);
+    phrases::put_blank_and_decimal(line, number_of(refusal) as u64);
+}
+
+fn put_polled(line: &mut Text, polled: Option<u8>) {
     match polled {
-        Polled::Nobody => text::put_bytes(out, at, b" nobody"),
-        Polled::Cabinet(k) => phrases::put_blank_and_decimal(out, at, k as u64),
+        None => line.put(b" nobody"),
+        Some(k) => phrases::put_blank_and_decimal(line, k as u64),
     }
 }
 
 fn print_start(name: &[u8], desk: Desk) -> Desk {
-    let mut out = io::buffer();
-    let p = text::put_bytes(&mut out, 0, name);
-    print_desk(&mut out, p, desk);
+    let mut buffer = io::buffer();
+    let mut line = Text::new(&mut buffer);
+    line.put(name);
+    put_desk(&mut line, desk);
+    test_output::print(&line);
     desk
 }
 
 fn print_changed(name: &[u8], cabinet: u64, changed: Changed) -> Desk {
-    let mut out = io::buffer();
-    let p = print_call(&mut out, name, cabinet, changed.refusal);
-    print_desk(&mut out, p, changed.desk);
+    let mut buffer = io::buffer();
+    let mut line = Text::new(&mut buffer);
+    put_call(&mut line, name, cabinet, changed.refusal);
+    put_desk(&mut line, changed.desk);
+    test_output::print(&line);
     changed.desk
 }
 
 fn print_ticked(answer: u64, ticked: DeskTicked) -> Desk {
-    let mut out = io::buffer();
-    let p = print_call(&mut out, b"tick", answer, ticked.refusal);
-    let polled = ticked.polled;
-    let q = put_polled(&mut out, p, polled);
-    print_desk(&mut out, q, ticked.desk);
+    let mut buffer = io::buffer();
+    let mut line = Text::new(&mut buffer);
+    put_call(&mut line, b"tick", answer, ticked.refusal);
+    put_polled(&mut line, ticked.polled);
+    put_desk(&mut line, ticked.desk);
+    test_output::print(&line);
     ticked.desk
 }
 
@@ -126,36 +136,13 @@ fn answer(desk: Desk, case: &[u8]) -> Desk {
     print_ticked(number, desk::tick(desk, number))
 }
 
-// The desk, and whether there was one more case.
-#[derive(Clone, Copy)]
-struct Next {
-    desk: Desk,
-    more: bool,
-}
-
-fn answer_next(desk: Desk) -> Next {
-    let mut buffer = io::buffer();
-    let case = test_input::next_case(&mut buffer);
-    if case.more {
-        let n = case.count;
-        return Next {
-            desk: answer(desk, &buffer[..n]),
-            more: true,
-        };
-    }
-    Next { desk, more: false }
-}
-
 fn main() {
     let mut desk = desk::fresh();
-    // the language wants to see that a loop ends
-    let mut left: u64 = 18446744073709551615;
-    while 0 < left {
-        let next = answer_next(desk);
-        if !next.more {
-            return;
+    let mut buffer = io::buffer();
+    for _ in 0..u64::MAX {
+        match test_input::next_case(&mut buffer) {
+            Some(case) => desk = answer(desk, case),
+            None => return,
         }
-        desk = next.desk;
-        left -= 1;
     }
 }

@@ -1,70 +1,67 @@
 // A plan entry in words, as the timetable says it: its days, start, mode, rate and table.
 #![tactic(auto)]
 
-ghost use Rattle.text.specs.Put.{Put};
+ghost use Rattle.text.specs.Puts.{Puts};
 ghost use Rattle.entry_text.specs.EntryText.{mode_name, clock_text, timed_text, day_text, days_text, entry_text};
 
 use plan::Entry;
+use text::Text;
 
-fn put_mode_name(out: &mut [u8], at: usize, mode: u16) -> usize
-    ensures { Put out.old at (mode_name mode) result out.new }
+fn put_mode_name(out: &mut Text, mode: u16)
+    ensures { Puts out.old (mode_name mode) out.new }
 {
     match mode {
-        0 => text::put_bytes(out, at, b"dark"),
-        1 => text::put_bytes(out, at, b"green"),
-        2 => text::put_bytes(out, at, b"fixed"),
-        3 => text::put_bytes(out, at, b"resp"),
-        _ => at,
+        0 => out.put(b"dark"),
+        1 => out.put(b"green"),
+        2 => out.put(b"fixed"),
+        3 => out.put(b"resp"),
+        _ => {}
     }
 }
 
 // A minute of the day as hh:mm.
-fn put_clock(out: &mut [u8], at: usize, minute: u16) -> usize
-    ensures { Put out.old at (clock_text minute) result out.new }
+fn put_clock(out: &mut Text, minute: u16)
+    ensures { Puts out.old (clock_text minute) out.new }
 {
-    let p = text::put_two_digits(out, at, minute / 60);
-    let q = text::put_byte(out, p, b':');
-    text::put_two_digits(out, q, minute % 60)
+    out.put_two_digits(minute / 60);
+    out.put_byte(b':');
+    out.put_two_digits(minute % 60);
 }
 
 // What stands behind the day: start, mode, rate and table.
-pub fn put_timed(out: &mut [u8], at: usize, e: Entry) -> usize
-    ensures { Put out.old at (timed_text e) result out.new }
+pub fn put_timed(out: &mut Text, e: Entry)
+    ensures { Puts out.old (timed_text e) out.new }
 {
-    let p = put_clock(out, at, e.start);
-    let mode = text::put_byte(out, p, b' ');
-    let rate = put_mode_name(out, mode, e.mode);
-    let table = phrases::put_blank_and_decimal(out, rate, e.rate as u64);
-    phrases::put_blank_and_decimal(out, table, e.table as u64)
+    put_clock(out, e.start);
+    out.put_byte(b' ');
+    put_mode_name(out, e.mode);
+    phrases::put_blank_and_decimal(out, e.rate as u64);
+    phrases::put_blank_and_decimal(out, e.table as u64);
 }
 
 // A day's name and a blank, if the days have it.
-fn put_day(out: &mut [u8], at: usize, days: u16, day: u16) -> usize
-    ensures { Put out.old at (day_text days day) result out.new }
+fn put_day(out: &mut Text, days: u16, day: u16)
+    ensures { Puts out.old (day_text days day) out.new }
 {
     if !plan::on_day(days, day) {
-        return at;
+        return;
     }
-    let p = phrases::put_day_name(out, at, day);
-    text::put_byte(out, p, b' ')
+    phrases::put_day_name(out, day);
+    out.put_byte(b' ');
 }
 
-fn put_days(out: &mut [u8], at: usize, days: u16) -> usize
-    ensures { Put out.old at (days_text days) result out.new }
+fn put_days(out: &mut Text, days: u16)
+    ensures { Puts out.old (days_text days) out.new }
 {
-    let mut p = at;
-    let mut day: u16 = 0;
-    while day < plan::DAY_TYPES {
-        p = put_day(out, p, days, day);
-        day += 1;
+    for day in 0..plan::DAY_TYPES {
+        put_day(out, days, day);
     }
-    p
 }
 
 // All of an entry.
-pub fn put_entry(out: &mut [u8], at: usize, e: Entry) -> usize
-    ensures { Put out.old at (entry_text e) result out.new }
+pub fn put_entry(out: &mut Text, e: Entry)
+    ensures { Puts out.old (entry_text e) out.new }
 {
-    let p = put_days(out, at, e.days);
-    put_timed(out, p, e)
+    put_days(out, e.days);
+    put_timed(out, e);
 }

@@ -1,18 +1,11 @@
 // Reading a file that may be absent.
 #![tactic(auto)]
 
-ghost use Rattle.std.specs.Prelude.{◌+◌, ◌≤◌, length};
+ghost use Rattle.std.specs.Prelude.{◌≤◌, length, IfSome};
 
 use std::fs::File;
 use std::io::{Error, ErrorKind, Read, Result};
 use std::rt::Files;
-
-// How many bytes were read; `failed` says that a file could not be read, or is absent and was named.
-#[derive(Clone, Copy)]
-pub struct Input {
-    pub failed: bool,
-    pub count: usize,
-}
 
 // The file of that name, to be read. A name that is no UTF-8 text is refused.
 pub fn open<R: Files>(rt: &R, name: &[u8]) -> Result<R::File> {
@@ -22,61 +15,44 @@ pub fn open<R: Files>(rt: &R, name: &[u8]) -> Result<R::File> {
     }
 }
 
-// One read into buf from byte `at` on. A failure is reported on standard error.
-fn read_some(name: &[u8], file: &mut impl Read, buf: &mut [u8], at: usize) -> Input
-    requires { at ≤ length buf.old }
-    ensures { at + result.count ≤ length buf.old }
+// Reads until buf is full or the input ends: how many bytes were read. A failure is reported on standard error.
+fn read_all(name: &[u8], file: &mut impl Read, buf: &mut [u8]) -> Option<usize>
+    ensures { IfSome result (λ count. count ≤ length buf.old) }
 {
-    match file.read(&mut buf[at..]) {
-        Ok(count) => Input {
-            failed: false,
-            count,
-        },
-        Err(error) => {
-            streams::fail(name, error);
-            Input {
-                failed: true,
-                count: 0,
+    let mut done: usize = 0;
+    // a read gives as many bytes as it likes
+    while done < buf.len() {
+        match file.read(&mut buf[done..]) {
+            Ok(0) => break,
+            Ok(count) => done += count,
+            Err(error) => {
+                streams::fail(name, error);
+                return None;
             }
         }
     }
+    Some(done)
 }
 
-// Reads until buf is full, the input ends or a read fails.
-fn read_all(name: &[u8], file: &mut impl Read, buf: &mut [u8]) -> Input
-    ensures { result.count ≤ length buf.old }
-{
-    let mut done: usize = 0;
-    while done < buf.len() {
-        let more = read_some(name, file, buf, done);
-        if more.count == 0 {
-            return Input {
-                failed: more.failed,
-                count: done,
-            };
-        }
-        done += more.count;
-    }
-    Input {
-        failed: false,
-        count: done,
-    }
-}
-
-// Reads the front of the file of that name. An absent one that nobody named counts as empty. A
+// Reads the front of the file of that name into buf. An absent one that nobody named counts as empty. A
 // failure is reported on standard error.
-pub fn read_file(rt: &impl Files, name: &[u8], named: bool, buf: &mut [u8]) -> Input
-    ensures { result.count ≤ length buf.old }
+pub fn read_file<'a>(
+    rt: &impl Files,
+    name: &[u8],
+    named: bool,
+    buf: &'a mut [u8],
+) -> Option<&'a [u8]>
+    ensures { IfSome result (λ file. length file.now ≤ length buf.old) }
 {
     match open(rt, name) {
-        Ok(mut file) => read_all(name, &mut file, buf),
+        Ok(mut file) => {
+            let count = read_all(name, &mut file, buf)?;
+            Some(&buf[..count])
+        }
         Err(error) => {
             let absent = error.kind() == ErrorKind::NotFound;
             streams::fail(name, error);
-            Input {
-                failed: named || !absent,
-                count: 0,
-            }
+            if named || !absent { None } else { Some(&[]) }
         }
     }
 }

@@ -61,8 +61,7 @@ fn lane_shown(g: Group, n: u16, i: u16) -> u16
     if n <= i {
         return 0;
     }
-    let s = g.lanes;
-    let lane = lanes::lane_at(s, i);
+    let lane = lanes::lane_at(g.lanes, i);
     colour_shown(g.interval, lane.colour)
 }
 

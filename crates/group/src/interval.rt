@@ -5,7 +5,7 @@ ghost use Rattle.group.specs.Intervals.{age_of, time_of, from_dark, from_green, 
 use timings::Timings;
 use wanted::Wish;
 
-// The group's intervals.
+// The group's intervals. They are numbers and no enum: a damaged state may hold any, and the check of a state (13) is told all of them.
 pub const INITIALIZATION: u16 = 0;
 
 pub const DARK: u16 = 1;
@@ -38,7 +38,7 @@ const TICKS_OF_A_MINUTE: u32 = 600;
 pub fn older(age: u16) -> u16
     ensures { result ≡ age_of age }
 {
-    if age < OLDEST { age + 1 } else { OLDEST }
+    age.saturating_add(1).min(OLDEST)
 }
 
 // The time that an interval runs at least.

@@ -39,15 +39,7 @@ pub struct Moved {
 fn all_red(s: Lanes, n: u16) -> bool
     ensures { result ≡ all_red s n }
 {
-    let mut i: u16 = 0;
-    while i < n {
-        let lane = lanes::lane_at(s, i);
-        if lane.colour != RED {
-            return false;
-        }
-        i += 1;
-    }
-    true
+    !(0..n).any(|i| lanes::lane_at(s, i).colour != RED)
 }
 
 // The interval after a tick: held by preemption, or the next.
@@ -57,8 +49,7 @@ fn interval_of(t: Timings, preemption: u16, wish: Wish, g: Group) -> u16
     if preemption::held(preemption, g.interval) {
         return g.interval;
     }
-    let s = g.lanes;
-    let red = all_red(s, t.lanes);
+    let red = all_red(g.lanes, t.lanes);
     let steering = preemption::steered(preemption, wish);
     interval::next(t, steering, interval::older(g.age), red, g.interval)
 }
@@ -67,10 +58,8 @@ fn interval_of(t: Timings, preemption: u16, wish: Wish, g: Group) -> u16
 fn bypass_in(t: Timings, call: u16, passage: [u16; 4], now: u16, g: Group) -> Bypass
     ensures { result ≡ bypass_in t call passage now g }
 {
-    let s = g.lanes;
-    let passed = bypass::has_passed(t, s, passage);
-    let b = g.bypass;
-    bypass::tick(t, now == METERING, call, passed, b)
+    let passed = bypass::has_passed(t, g.lanes, passage);
+    bypass::tick(t, now == METERING, call, passed, g.bypass)
 }
 
 // The lanes after a tick from one interval to another, none released.
@@ -134,14 +123,10 @@ pub fn tick(t: Timings, calls: Calls, wish: Wish, cycle: u16, samples: Metered, 
     ensures { result ≡ moved_of t calls wish cycle samples g }
 {
     let now = interval_of(t, calls.preemption, wish, g);
-    let passage = samples.passage;
-    let bypass = bypass_in(t, calls.bypass, passage, now, g);
-    let was = g.bypass;
-    let endings = bypass::endings(t, was, bypass);
-    let standing = g.lanes;
-    let s = lanes_in(t, endings, passage, g.interval, now, standing);
-    let demand = samples.demand;
-    let released = released_in(t, bypass.kept, cycle, demand, now, s);
+    let bypass = bypass_in(t, calls.bypass, samples.passage, now, g);
+    let endings = bypass::endings(t, g.bypass, bypass);
+    let s = lanes_in(t, endings, samples.passage, g.interval, now, g.lanes);
+    let released = released_in(t, bypass.kept, cycle, samples.demand, now, s);
     let after = release::release(s, released);
     Moved {
         group: group_of(g, now, bypass, after),

@@ -6,6 +6,7 @@ ghost use Rattle.group.specs.Range.{colour_spoilt, lane_spoilt, lane_kept, lane_
 use crate::Group;
 use crate::interval::{CLOSING, METERING, OLDEST, SHUTDOWN_RED};
 use lanes::{GREEN, LONGEST, Lane, Lanes, MOST_PASSAGES, RED};
+use timings::Shape;
 
 fn no_colour(colour: u16) -> bool
     ensures { result ≡ (ltb colour 1 || ltb 3 colour) }
@@ -73,14 +74,7 @@ fn lane_spoilt_at(interval: u16, s: Lanes, n: u16, i: u16) -> bool
 fn any_lane_spoilt(interval: u16, s: Lanes, n: u16) -> bool
     ensures { result ≡ any_from (lane_spoilt_at interval s n) 0 4 }
 {
-    let mut i: u16 = 0;
-    while i < 4 {
-        if lane_spoilt_at(interval, s, n, i) {
-            return true;
-        }
-        i += 1;
-    }
-    false
+    (0..4).any(|i| lane_spoilt_at(interval, s, n, i))
 }
 
 fn lanes_spoilt(interval: u16, s: Lanes, n: u16) -> bool
@@ -98,9 +92,9 @@ fn lanes_spoilt(interval: u16, s: Lanes, n: u16) -> bool
     any_lane_spoilt(interval, s, n)
 }
 
-// Whether a group's state is outside its ranges, at a site of n lanes with this priority lane.
-pub fn group_spoilt(g: Group, n: u16, priority: u16) -> bool
-    ensures { result ≡ group_spoilt g n priority }
+// Whether a group's state is outside its ranges, at a site of this shape.
+pub fn group_spoilt(g: Group, shape: Shape) -> bool
+    ensures { result ≡ group_spoilt g shape.lanes shape.priority }
 {
     if SHUTDOWN_RED < g.interval {
         return true;
@@ -108,10 +102,8 @@ pub fn group_spoilt(g: Group, n: u16, priority: u16) -> bool
     if OLDEST < g.age {
         return true;
     }
-    let s = g.lanes;
-    if lanes_spoilt(g.interval, s, n) {
+    if lanes_spoilt(g.interval, g.lanes, shape.lanes) {
         return true;
     }
-    let b = g.bypass;
-    bypass::spoilt(g.interval == METERING, priority, b)
+    bypass::spoilt(g.interval == METERING, shape.priority, g.bypass)
 }

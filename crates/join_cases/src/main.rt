@@ -9,7 +9,8 @@ mod year;
 ghost use Rattle.std.specs.Prelude.{◌≤◌};
 
 use joining::PlanList;
-use year::Asked;
+use text::Text;
+use year::{Asked, Lists};
 
 // The numbers of a list's rows; the holidays have as many.
 const NUMBERS: usize = ranges::MOST_ENTRY_NUMBERS;
@@ -28,10 +29,8 @@ fn numbers_at(case: &[u8], at: usize) -> [u16; NUMBERS]
     requires { at ≤ 1000 }
 {
     let mut rows = [0u16; NUMBERS];
-    let mut i: usize = 0;
-    while i < NUMBERS {
-        rows[i] = numbers::word(case, at + i);
-        i += 1;
+    for (i, number) in rows.iter_mut().enumerate() {
+        *number = numbers::word(case, at + i);
     }
     rows
 }
@@ -39,88 +38,72 @@ fn numbers_at(case: &[u8], at: usize) -> [u16; NUMBERS]
 fn list_at(case: &[u8], at: usize) -> PlanList
     requires { at ≤ 999 }
 {
+    let rows = numbers_at(case, at + 1);
     PlanList {
-        rows: numbers_at(case, at + 1),
+        rows,
         count: numbers::word(case, at),
     }
 }
 
 // A list's count and its numbers, to the end of the line.
-fn put_list(out: &mut [u8], at: usize, list: PlanList) -> usize {
-    let rows = list.rows;
-    let mut p = phrases::put_blank_and_decimal(out, at, list.count as u64);
-    let mut i: usize = 0;
-    while i < NUMBERS {
-        p = phrases::put_blank_and_decimal(out, p, rows[i] as u64);
-        i += 1;
+fn put_list(out: &mut Text, list: PlanList) {
+    phrases::put_blank_and_decimal(out, list.count as u64);
+    for number in &list.rows {
+        phrases::put_blank_and_decimal(out, *number as u64);
     }
-    text::put_byte(out, p, b'\n')
+    out.put_byte(b'\n');
 }
 
-fn put_asked(out: &mut [u8], at: usize, year: u16, asked: Asked) -> usize {
-    let a = text::put_bytes(out, at, b"year");
-    let b = phrases::put_blank_and_decimal(out, a, year as u64);
-    let c = text::put_bytes(out, b, b" checks");
-    let d = phrases::put_blank_and_decimal(out, c, asked.checks as u64);
-    let e = text::put_bytes(out, d, b" digest");
-    let f = phrases::put_blank_and_decimal(out, e, asked.digest as u64);
-    text::put_byte(out, f, b'\n')
+fn put_asked(out: &mut Text, year: u16, asked: Asked) {
+    out.put(b"year");
+    phrases::put_blank_and_decimal(out, year as u64);
+    out.put(b" checks");
+    phrases::put_blank_and_decimal(out, asked.checks as u64);
+    out.put(b" digest");
+    phrases::put_blank_and_decimal(out, asked.digest as u64);
+    out.put_byte(b'\n');
 }
 
-// Nothing where the join is refused.
-fn put_year(
-    out: &mut [u8],
-    at: usize,
-    refusal: u8,
-    case: &[u8],
-    joined: PlanList,
-    first: PlanList,
-    second: PlanList,
-) -> usize {
-    if refusal != 0 {
-        return at;
-    }
+// The year that the case asks for, with the lists of an accepted join.
+fn put_year(out: &mut Text, case: &[u8], joined: PlanList, first: PlanList, second: PlanList) {
     let year = numbers::word(case, YEAR);
-    let holidays = numbers::word(case, HOLIDAYS);
     let dates = numbers_at(case, DATES);
-    let asked = year::asked_in(year, dates, holidays, joined, first, second);
-    put_asked(out, at, year, asked)
+    let asked = year::asked_in(
+        year,
+        &Lists {
+            dates,
+            holidays: numbers::word(case, HOLIDAYS),
+            joined,
+            first,
+            second,
+        },
+    );
+    put_asked(out, year, asked);
 }
 
 fn answer(case: &[u8]) {
     let first = list_at(case, 0);
     let second = list_at(case, SECOND);
     let answer = joining::join(first, second);
-    let joined = answer.list;
-    let mut out = io::buffer();
-    let a = text::put_bytes(&mut out, 0, b"joined");
-    let b = phrases::put_blank_and_decimal(&mut out, a, answer.refusal as u64);
-    let c = put_list(&mut out, b, joined);
-    let d = text::put_bytes(&mut out, c, b"first");
-    let e = put_list(&mut out, d, first);
-    let f = text::put_bytes(&mut out, e, b"second");
-    let g = put_list(&mut out, f, second);
-    let end = put_year(&mut out, g, answer.refusal, case, joined, first, second);
-    test_output::print(&out, end);
-}
-
-// Whether there was one more case.
-fn answer_next() -> bool {
+    let refusal = match answer {
+        Ok(_) => 0,
+        Err(refusal) => refusal.number(),
+    };
     let mut buffer = io::buffer();
-    let case = test_input::next_case(&mut buffer);
-    if case.more {
-        let n = case.count;
-        answer(&buffer[..n]);
+    let mut text = Text::new(&mut buffer);
+    text.put(b"joined");
+    phrases::put_blank_and_decimal(&mut text, refusal as u64);
+    put_list(&mut text, joining::list_given(answer));
+    text.put(b"first");
+    put_list(&mut text, first);
+    text.put(b"second");
+    put_list(&mut text, second);
+    if let Ok(list) = answer {
+        put_year(&mut text, case, list, first, second);
     }
-    case.more
+    test_output::print(&text);
 }
 
 fn main() {
-    let mut left: u32 = 65536;
-    while 0 < left {
-        if !answer_next() {
-            return;
-        }
-        left -= 1;
-    }
+    test_input::answer_all(&mut io::buffer(), answer);
 }

@@ -2,6 +2,7 @@
 // lists and the minute before it.
 use calendar::Date;
 use joining::PlanList;
+use numbers::Rows;
 use plan::Entry;
 
 // By then every entry of a day has begun.
@@ -12,6 +13,16 @@ const LAST_MINUTE: u16 = 1439;
 pub struct Asked {
     pub checks: u32,
     pub digest: u32,
+}
+
+// What is asked: a site's holidays, and the joined list beside the two that it is made of.
+#[derive(Clone, Copy)]
+pub struct Lists {
+    pub dates: [u16; ranges::MOST_HOLIDAY_NUMBERS],
+    pub holidays: u16,
+    pub joined: PlanList,
+    pub first: PlanList,
+    pub second: PlanList,
 }
 
 fn no_entry() -> Entry {
@@ -44,107 +55,60 @@ fn with_place(asked: Asked, rows: &[u16], place: u16) -> Asked {
     with_entry(asked, 1, plan::entry_at(rows, place - 1))
 }
 
-// The entry of a list that is in force on a date at a minute.
-fn ask(
-    asked: Asked,
-    dates: [u16; ranges::MOST_HOLIDAY_NUMBERS],
-    holidays: u16,
-    joined: PlanList,
-    today: Date,
-    minute: u16,
-) -> Asked {
-    let rows = joined.rows;
-    let found = plan::day_and_entry(&rows, joined.count, &dates, holidays, today, minute);
-    with_place(asked, &rows, found.entry)
+// The entry of the joined list that is in force on a date at a minute.
+fn ask(asked: Asked, lists: &Lists, today: Date, minute: u16) -> Asked {
+    let joined = &lists.joined;
+    let found = plan::day_and_entry(
+        Rows {
+            numbers: &joined.rows,
+            count: joined.count,
+        },
+        Rows {
+            numbers: &lists.dates,
+            count: lists.holidays,
+        },
+        today,
+        minute,
+    );
+    with_place(asked, &joined.rows, found.entry)
 }
 
 fn minute_before(minute: u16) -> u16 {
-    if minute == 0 {
-        return LAST_MINUTE;
-    }
-    minute - 1
+    minute.checked_sub(1).unwrap_or(LAST_MINUTE)
 }
 
 // At each start of a list, and the minute before it.
-fn ask_at_starts(
-    before: Asked,
-    dates: [u16; ranges::MOST_HOLIDAY_NUMBERS],
-    holidays: u16,
-    joined: PlanList,
-    today: Date,
-    starts: PlanList,
-) -> Asked {
-    let rows = starts.rows;
+fn ask_at_starts(before: Asked, lists: &Lists, today: Date, starts: &PlanList) -> Asked {
     let mut asked = before;
-    let mut i: u16 = 0;
-    while i < starts.count {
-        let e = plan::entry_at(&rows, i);
-        asked = ask(asked, dates, holidays, joined, today, e.start);
-        asked = ask(
-            asked,
-            dates,
-            holidays,
-            joined,
-            today,
-            minute_before(e.start),
-        );
-        i += 1;
+    for i in 0..starts.count {
+        let start = plan::entry_at(&starts.rows, i).start;
+        asked = ask(asked, lists, today, start);
+        asked = ask(asked, lists, today, minute_before(start));
     }
     asked
 }
 
 // On a date, if there is such a one.
-fn ask_on(
-    asked: Asked,
-    dates: [u16; ranges::MOST_HOLIDAY_NUMBERS],
-    holidays: u16,
-    joined: PlanList,
-    first: PlanList,
-    second: PlanList,
-    today: Date,
-) -> Asked {
+fn ask_on(asked: Asked, lists: &Lists, today: Date) -> Asked {
     if !calendar::is_date(today) {
         return asked;
     }
-    let a = ask(asked, dates, holidays, joined, today, 0);
-    let b = ask(a, dates, holidays, joined, today, LAST_MINUTE);
-    let c = ask_at_starts(b, dates, holidays, joined, today, first);
-    ask_at_starts(c, dates, holidays, joined, today, second)
-}
-
-fn ask_in_month(
-    before: Asked,
-    dates: [u16; ranges::MOST_HOLIDAY_NUMBERS],
-    holidays: u16,
-    joined: PlanList,
-    first: PlanList,
-    second: PlanList,
-    year: u16,
-    month: u16,
-) -> Asked {
-    let mut asked = before;
-    for day in 1..32 {
-        let today = Date { year, month, day };
-        asked = ask_on(asked, dates, holidays, joined, first, second, today);
-    }
-    asked
+    let a = ask(asked, lists, today, 0);
+    let b = ask(a, lists, today, LAST_MINUTE);
+    let c = ask_at_starts(b, lists, today, &lists.first);
+    ask_at_starts(c, lists, today, &lists.second)
 }
 
 // On every date of a year.
-pub fn asked_in(
-    year: u16,
-    dates: [u16; ranges::MOST_HOLIDAY_NUMBERS],
-    holidays: u16,
-    joined: PlanList,
-    first: PlanList,
-    second: PlanList,
-) -> Asked {
+pub fn asked_in(year: u16, lists: &Lists) -> Asked {
     let mut asked = Asked {
         checks: 0,
         digest: 0,
     };
     for month in 1..13 {
-        asked = ask_in_month(asked, dates, holidays, joined, first, second, year, month);
+        for day in 1..32 {
+            asked = ask_on(asked, lists, Date { year, month, day });
+        }
     }
     asked
 }

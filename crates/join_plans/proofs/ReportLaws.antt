@@ -1,6 +1,6 @@
 -- An entry's line, from what the code finds; how long the texts are at most.
 use Prim.Native.Nat.{ℕ, ◌+◌, ◌-◌, ◌≤◌, ◌<◌}
-use mathlib.Core.Path.{◌≡◌, sym, ap, ◌∙◌}
+use mathlib.Core.Path.{◌≡◌, ap, ◌∙◌}
 use mathlib.Core.List.{List, []}
 use native.Mathlib.Omega.{arith}
 use borrow.Author.Tests.{eq-eqb, ne_eqb, eqb-false}
@@ -8,6 +8,8 @@ use lib.Dec.{eqb}
 use lib.ListN.{length, length-append}
 use Rattle.loops.proofs.Cases.{by_test}
 use Rattle.text.proofs.DecimalLaws.{decimal_most}
+use Rattle.refusals.specs.Numbers.{number_of}
+use Rattle.refusals.specs.declared.Refusal.TheVariants.{TooManyEntries}
 use Rattle.phrases.specs.Phrases.{refused_line}
 use Rattle.phrases.specs.Wrong.{trade_word, opening_text, range_text, allowed_text}
 use Rattle.text.proofs.JoinedLaws.{joined_most}
@@ -69,8 +71,8 @@ module _ (name : List ℕ) (x : Site) (other : List ℕ) (works : Site) (s : Sho
       let m = entries_most x s.site in
       omega (arith, joined_most (line_for name (plan_of x) other (plan_of works)) 8341 x.entries 0 (λ j l h. line_most_lem j (omega arith)))
 
-  pub remain_most : length (remain_text 17 name (plan_of x) other (plan_of works)) ≤ 8268
-  unfolding too_many_text shares_text of_text refused_line opening_text trade_word allowed_text range_text
+  pub remain_most : length (remain_text TooManyEntries name (plan_of x) other (plan_of works)) ≤ 8268
+  unfolding number_of too_many_text shares_text of_text refused_line opening_text trade_word allowed_text range_text
   remain_most =
       let many = length (kept (entries_of (plan_of x)) (entries_of (plan_of works))) in
       let m : many ≤ 16 =

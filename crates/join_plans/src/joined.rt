@@ -1,5 +1,5 @@
 // The first site with the plan that joins both, as a file.
-ghost use Rattle.std.specs.Prelude.{◌≡◌, false, ◌⊎◌, ◌≤◌, length, take};
+ghost use Rattle.std.specs.Prelude.{◌≡◌, false, ◌⊎◌, ◌≤◌, length, take, Ok, IfOk, IsOk, IsOkAnd, IsErrOf};
 ghost use Rattle.site.specs.Record.{spoilt_site};
 ghost use Rattle.site.specs.Reading.{longest_file, read_of};
 ghost use Rattle.joining.specs.Decided.{with_list};
@@ -7,11 +7,13 @@ ghost use Rattle.join_plans.specs.JoinedSite.{plan_of, joined_site, join_written
 
 use joining::PlanList;
 use output::Written;
+use refusals::Refusal;
 use site::Site;
 
 pub fn plan_of(site: Site) -> PlanList
     ensures { result ≡ plan_of site }
 {
+    // the check does not follow an array from a field straight into a literal
     let rows = site.plan;
     PlanList {
         rows,
@@ -22,18 +24,12 @@ pub fn plan_of(site: Site) -> PlanList
 fn with_list(site: Site, list: PlanList) -> Site
     ensures { result ≡ with_list site list }
 {
-    let timings = site.timings;
+    // as in plan_of
     let plan = list.rows;
-    let dates = site.dates;
-    let tables = site.tables;
     Site {
-        timings,
         entries: list.count,
         plan,
-        holidays: site.holidays,
-        dates,
-        levels: site.levels,
-        tables,
+        ..site
     }
 }
 
@@ -42,13 +38,9 @@ fn with_list(site: Site, list: PlanList) -> Site
 pub fn write(site: Site, works: Site, out: &mut [u8]) -> Written
     ensures answer { result ≡ join_written site works out.old }
     ensures buffer { out.new ≡ join_out site works out.old }
-    ensures back { result.refusal ≡ 0 → read_of (take result.count out.new) ≡ record { refusal = 0; place = 0; site = joined_site site works } }
-    ensures only { spoilt_site site ≡ false → spoilt_site works ≡ false → longest_file ≤ length out.old → (result.refusal ≡ 0) ⊎ (result.refusal ≡ 17) }
+    ensures back { IfOk result (λ count. IsOkAnd (joined_site site works) (λ joined. read_of (take count out.new) ≡ Ok joined)) }
+    ensures only { spoilt_site site ≡ false → spoilt_site works ≡ false → longest_file ≤ length out.old → IsOk result ⊎ IsErrOf result Refusal.TooManyEntries }
 {
-    let joined = joining::join(plan_of(site), plan_of(works));
-    if joined.refusal != 0 {
-        return output::refused_write(joined.refusal);
-    }
-    let list = joined.list;
+    let list = joining::join(plan_of(site), plan_of(works))?;
     site_writer::write(with_list(site, list), out)
 }

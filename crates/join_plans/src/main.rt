@@ -6,17 +6,19 @@ mod joined;
 mod report;
 
 ghost use Rattle.std.specs.Prelude.{◌≡◌, ◌≤◌, length};
+ghost use Rattle.refusals.specs.declared.Refusal.TheVariants.{TooManyEntries};
 ghost use Rattle.join_plans.specs.Report.{ShortNames};
 
+use refusals::Refusal;
 use site::Site;
 use std::rt::{Env, Files};
 use streams::STDERR_FILENO;
 
-const USAGE: [u8; 42] = *b"usage: join_plans SITE ROADWORKS > JOINED\n";
+const USAGE: &[u8] = b"usage: join_plans SITE ROADWORKS > JOINED\n";
 
 // How many would remain, on standard error.
-fn print_remaining(refusal: u8, name: &[u8], site: Site, other: &[u8], works: Site)
-    requires { (refusal ≡ 17) × ShortNames name.now site other.now works }
+fn print_remaining(refusal: Refusal, name: &[u8], site: Site, other: &[u8], works: Site)
+    requires { (refusal ≡ TooManyEntries) × ShortNames name.now site other.now works }
 {
     let mut text = [0u8; report::REMAINING_ROOM];
     let n = report::fill_remaining(&mut text, refusal, name, site, other, works);
@@ -36,61 +38,51 @@ fn print_joined(rt: &impl Print, name: &[u8], site: Site, other: &[u8], works: S
     requires { ShortNames name.now site other.now works }
 {
     let mut file = [0u8; site_reader::FRONT];
-    let written = joined::write(site, works, &mut file);
-    if written.refusal != 0 {
-        print_remaining(written.refusal, name, site, other, works);
-        return;
-    }
-    if site_program::write_front(rt, &file, written.count) {
-        print_report(name, site, other, works);
+    match joined::write(site, works, &mut file) {
+        Ok(count) => {
+            if site_program::write_front(rt, &file, count) {
+                print_report(name, site, other, works);
+            }
+        }
+        Err(refusal) => print_remaining(refusal, name, site, other, works),
     }
 }
 
 fn join_files(rt: &(impl Files + Print), name: &[u8], other: &[u8])
     requires { (length name.now ≤ 4096) × (length other.now ≤ 4096) }
 {
-    let first = site_input::site_of(rt, name, true, true);
-    if !first.given {
+    let Some(site) = site_input::site_of(rt, name, true, true) else {
         return;
+    };
+    if let Some(works) = site_input::site_of(rt, other, true, true) {
+        print_joined(rt, name, site, other, works);
     }
-    let second = site_input::site_of(rt, other, true, true);
-    if !second.given {
-        return;
-    }
-    let site = first.site;
-    let works = second.site;
-    print_joined(rt, name, site, other, works);
 }
 
 fn join_asked(rt: &(impl Env + Files + Print)) {
     let mut name = io::buffer();
     let mut other = io::buffer();
-    let usage = USAGE;
-    let first = site_program::asked_name(rt, 1, b"the first file's name", &usage, &mut name);
-    if !first.given {
+    let Some(first) = site_program::asked_name(rt, 1, b"the first file's name", USAGE, &mut name)
+    else {
         return;
+    };
+    let second = site_program::asked_name(rt, 2, b"the second file's name", USAGE, &mut other);
+    if let Some(second) = second {
+        join_files(rt, first.name, second.name);
     }
-    let second = site_program::asked_name(rt, 2, b"the second file's name", &usage, &mut other);
-    if !second.given {
-        return;
-    }
-    let n = first.count;
-    let m = second.count;
-    join_files(rt, &name[..n], &other[..m]);
 }
 
 // The help, where the one argument asks for it; else how many are wanted.
 fn print_other(rt: &(impl Env + Print), count: usize) {
-    let usage = USAGE;
     if count == 1 && site_program::asks_help(rt) {
         site_program::print_help(
             rt,
-            &usage,
+            USAGE,
             b"Joins the plan of ROADWORKS, a site file, to that of SITE, and writes SITE with the joined plan, as a site file.\nAn entry of SITE is dropped if one of ROADWORKS has the same start and all its days: on standard error stands which, or why\nnothing is written.\ndocs/FORMATS.md describes the site file and the lines.\n",
         );
         return;
     }
-    site_program::print_wanted(count, b"2", &usage);
+    site_program::print_wanted(count, b"2", USAGE);
 }
 
 fn main(rt: HostRuntime) {

@@ -1,85 +1,67 @@
 // What the clerk is told: which entries are dropped, and by which they are covered; or how many would remain.
 ghost use Rattle.std.specs.Prelude.{◌≡◌, ◌++◌, length, drop};
-ghost use Rattle.text.specs.Put.{Put};
+ghost use Rattle.text.specs.Puts.{Puts};
+ghost use Rattle.refusals.specs.declared.Refusal.TheVariants.{TooManyEntries};
 ghost use Rattle.join_plans.specs.JoinedSite.{plan_of};
 ghost use Rattle.join_plans.specs.Report.{filed_text, dropped_line, line_for, report_of, of_text, shares_text, too_many_text, remain_text, ShortNames};
 
 use joining::PlanList;
 use plan::Entry;
+use refusals::Refusal;
 use site::Site;
+use text::Text;
 
 // An entry, its file and its place there.
-fn put_filed(out: &mut [u8], at: usize, e: Entry, name: &[u8], place: u64) -> usize
-    ensures { Put out.old at (filed_text e name.now place) result out.new }
+fn put_filed(out: &mut Text, e: Entry, name: &[u8], place: u64)
+    ensures { Puts out.old (filed_text e name.now place) out.new }
 {
-    let a = entry_text::put_entry(out, at, e);
-    let b = text::put_bytes(out, a, b" (");
-    let c = text::put_bytes(out, b, name);
-    let d = text::put_bytes(out, c, b", entry ");
-    let f = text::put_decimal(out, d, place);
-    text::put_byte(out, f, b')')
+    entry_text::put_entry(out, e);
+    out.put(b" (");
+    out.put(name);
+    out.put(b", entry ");
+    out.put_decimal(place);
+    out.put_byte(b')');
 }
 
 // An entry that is dropped, and the one that covers it.
 fn put_dropped(
-    out: &mut [u8],
-    at: usize,
+    out: &mut Text,
     name: &[u8],
     e: Entry,
     place: u64,
     other: &[u8],
     by: Entry,
     there: u64,
-) -> usize
-    ensures { Put out.old at (dropped_line name.now e place other.now by there) result out.new }
+)
+    ensures { Puts out.old (dropped_line name.now e place other.now by there) out.new }
 {
-    let a = text::put_bytes(out, at, b"dropped: ");
-    let b = put_filed(out, a, e, name, place);
-    let c = text::put_bytes(out, b, b", covered by ");
-    let d = put_filed(out, c, by, other, there);
-    text::put_byte(out, d, b'\n')
+    out.put(b"dropped: ");
+    put_filed(out, e, name, place);
+    out.put(b", covered by ");
+    put_filed(out, by, other, there);
+    out.put_byte(b'\n');
 }
 
 // The line of entry i of the first list, if it is dropped.
-fn put_line(
-    out: &mut [u8],
-    at: usize,
-    name: &[u8],
-    first: PlanList,
-    other: &[u8],
-    second: PlanList,
-    i: u16,
-) -> usize
-    ensures { Put out.old at (line_for name.now first other.now second i) result out.new }
+fn put_line(out: &mut Text, name: &[u8], first: PlanList, other: &[u8], second: PlanList, i: u16)
+    ensures { Puts out.old (line_for name.now first other.now second i) out.new }
 {
-    let rows = first.rows;
-    let others = second.rows;
-    let e = plan::entry_at(&rows, i);
-    let place = joining::covering(&others, second.count, e);
+    let e = plan::entry_at(&first.rows, i);
+    let place = joining::covering(&second, e);
     if place == 0 {
-        return at;
+        return;
     }
-    let by = plan::entry_at(&others, place - 1);
-    put_dropped(out, at, name, e, i as u64 + 1, other, by, place as u64)
+    let by = plan::entry_at(&second.rows, place - 1);
+    put_dropped(out, name, e, i as u64 + 1, other, by, place as u64);
 }
 
 // A line for each entry of the first list that is dropped.
-pub fn put_report(
-    out: &mut [u8],
-    name: &[u8],
-    first: PlanList,
-    other: &[u8],
-    second: PlanList,
-) -> usize
-    ensures { Put out.old 0 (report_of name.now first other.now second) result out.new }
+pub fn put_report(out: &mut Text, name: &[u8], first: PlanList, other: &[u8], second: PlanList)
+    ensures { Puts out.old (report_of name.now first other.now second) out.new }
 {
-    let mut p: usize = 0;
-    let mut i: u16 = 0;
-    while i < first.count {
-        p = put_line(out, p, name, first, other, second, i);
-        i += 1;
+    for i in 0..first.count {
+        put_line(out, name, first, other, second, i);
     }
-    p
 }
 
 // Room for every report: 16 lines of 8341 bytes at the most, with names of 4096 bytes in each.
@@ -97,69 +79,64 @@ pub fn fill_report(
     ensures count { result ≡ length (report_of name.now (plan_of site) other.now (plan_of works)) }
     ensures buffer { out.new ≡ report_of name.now (plan_of site) other.now (plan_of works) ++ drop result out.old }
 {
+    let mut text = Text::new(out);
     put_report(
-        out,
+        &mut text,
         name,
         crate::joined::plan_of(site),
         other,
         crate::joined::plan_of(works),
-    )
+    );
+    text.end
 }
 
-fn put_of(out: &mut [u8], at: usize, many: u16, name: &[u8]) -> usize
-    ensures { Put out.old at (of_text many name.now) result out.new }
+fn put_of(out: &mut Text, many: u16, name: &[u8])
+    ensures { Puts out.old (of_text many name.now) out.new }
 {
-    let a = text::put_decimal(out, at, many as u64);
-    let b = text::put_bytes(out, a, b" of ");
-    text::put_bytes(out, b, name)
+    out.put_decimal(many as u64);
+    out.put(b" of ");
+    out.put(name);
 }
 
 // So many are from each file.
-fn put_shares(
-    out: &mut [u8],
-    at: usize,
-    first: u16,
-    name: &[u8],
-    second: u16,
-    other: &[u8],
-) -> usize
-    ensures { Put out.old at (shares_text first name.now second other.now) result out.new }
+fn put_shares(out: &mut Text, first: u16, name: &[u8], second: u16, other: &[u8])
+    ensures { Puts out.old (shares_text first name.now second other.now) out.new }
 {
-    let a = text::put_bytes(out, at, b" (");
-    let b = put_of(out, a, first, name);
-    let c = text::put_bytes(out, b, b", ");
-    let d = put_of(out, c, second, other);
-    text::put_bytes(out, d, b")\n")
+    out.put(b" (");
+    put_of(out, first, name);
+    out.put(b", ");
+    put_of(out, second, other);
+    out.put(b")\n");
 }
 
 // So many of each file would remain.
 fn put_too_many(
-    out: &mut [u8],
-    refusal: u8,
+    out: &mut Text,
+    refusal: Refusal,
     first: u16,
     name: &[u8],
     second: u16,
     other: &[u8],
-) -> usize
-    ensures { Put out.old 0 (too_many_text refusal first name.now second other.now) result out.new }
+)
+    ensures { Puts out.old (too_many_text refusal first name.now second other.now) out.new }
 {
-    let a = phrases::put_refused(out, 0, refusal);
-    let b = phrases::put_opening(out, a, refusal);
-    let c = text::put_decimal(out, b, first as u64 + second as u64);
-    let d = text::put_bytes(out, c, b" would remain");
-    let e = phrases::put_allowed(out, d, 0, ranges::MOST_ENTRIES as u64);
-    put_shares(out, e, first, name, second, other)
+    phrases::put_refused(out, refusal);
+    phrases::put_opening(out, refusal);
+    out.put_decimal(first as u64 + second as u64);
+    out.put(b" would remain");
+    phrases::put_allowed(out, 0, ranges::MOST_ENTRIES as u64);
+    put_shares(out, first, name, second, other);
 }
 
 fn put_remaining(
-    out: &mut [u8],
-    refusal: u8,
+    out: &mut Text,
+    refusal: Refusal,
     name: &[u8],
     first: PlanList,
     other: &[u8],
     second: PlanList,
-) -> usize
-    ensures { Put out.old 0 (remain_text refusal name.now first other.now second) result out.new }
+)
+    ensures { Puts out.old (remain_text refusal name.now first other.now second) out.new }
 {
     put_too_many(
         out,
@@ -168,7 +145,7 @@ fn put_remaining(
         name,
         second.count,
         other,
-    )
+    );
 }
 
 // Room for these two lines: 8268 bytes at the most, with names of 4096 bytes.
@@ -177,22 +154,24 @@ pub const REMAINING_ROOM: usize = 8268;
 // How many would remain, in a buffer with room for it: how many bytes it has. 17 is the refusal.
 pub fn fill_remaining(
     out: &mut [u8; REMAINING_ROOM],
-    refusal: u8,
+    refusal: Refusal,
     name: &[u8],
     site: Site,
     other: &[u8],
     works: Site,
 ) -> usize
-    requires { (refusal ≡ 17) × ShortNames name.now site other.now works }
-    ensures count { result ≡ length (remain_text 17 name.now (plan_of site) other.now (plan_of works)) }
-    ensures buffer { out.new ≡ remain_text 17 name.now (plan_of site) other.now (plan_of works) ++ drop result out.old }
+    requires { (refusal ≡ TooManyEntries) × ShortNames name.now site other.now works }
+    ensures count { result ≡ length (remain_text TooManyEntries name.now (plan_of site) other.now (plan_of works)) }
+    ensures buffer { out.new ≡ remain_text TooManyEntries name.now (plan_of site) other.now (plan_of works) ++ drop result out.old }
 {
+    let mut text = Text::new(out);
     put_remaining(
-        out,
+        &mut text,
         refusal,
         name,
         crate::joined::plan_of(site),
         other,
         crate::joined::plan_of(works),
-    )
+    );
+    text.end
 }

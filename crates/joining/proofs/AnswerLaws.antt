@@ -1,7 +1,7 @@
 -- The definition's answer is what the words say, and no other is.
 use Prim.Native.Nat.{ℕ, ◌+◌, ◌-◌, ◌*◌, ◌/◌, ◌%◌, ◌≤◌, ◌<◌}
-use mathlib.Core.Path.{◌≡◌, refl, sym, ap, ap₂, subst, ◌∙◌}
-use mathlib.Core.Bool.{true, false}
+use mathlib.Core.Path.{◌≡◌, refl, sym, ap, ap₂, ◌∙◌}
+use mathlib.Core.Bool.{true}
 use mathlib.Core.List.{List, [], ◌∷◌}
 use mathlib.Core.Logic.{◌⊎◌, inl, inr}
 use native.Mathlib.Omega.{arith}
@@ -13,19 +13,14 @@ use Rattle.loops.proofs.Cases.{by_test}
 use Rattle.plan.specs.declared.Entry.{Entry}
 use Rattle.plan.specs.Entry.{entry_of}
 use Rattle.joining.specs.declared.PlanList.{PlanList}
-use Rattle.joining.specs.declared.Joined.{Joined}
+use Rattle.std.specs.Prelude.{Result, Ok, Err, IfOk, IsOk, is_ok}
+use Rattle.refusals.specs.declared.Refusal.{Refusal}
+use Rattle.refusals.specs.declared.Refusal.TheVariants.{SpoiltSite, TooManyEntries}
 use Rattle.joining.specs.Joining.{numbers_of, spoilt_list, joined_of}
 use Rattle.joining.specs.InWords.{Joins, BothFiled, Answers}
 use Rattle.joining.proofs.EntryRows.{number_of, zeros_behind}
 use Rattle.joining.proofs.JoinLaws.{spoilt_first, spoilt_second, too_many, joins_if}
 use Rattle.joining.proofs.Words.{remain, many_kept, joins_in_words}
-use Rattle.joining.proofs.Accepted.{accepted_or_empty}
-
-abbrev refusal_in : Joined → ℕ
-refusal_in r = r.refusal
-
-abbrev Empty : PlanList → Type 0
-Empty l = (l.count ≡ 0) × ((i : ℕ) → get_or l.rows i 0 ≡ 0)
 
 -- Lists with the same entries, and 0 behind them, are the same.
 same_list : (l m : PlanList) → l.count ≡ m.count
@@ -64,56 +59,48 @@ same_joins {first} {second} {l} {m} {many} j o a b =
         ap (entry_of l.rows) e ∙ j.then_second i n ∙ sym (o.then_second i n) ∙ sym (ap (entry_of m.rows) e))
 
 module _ (first second : PlanList) where
-  no_file : (spoilt_list first ≡ true) ⊎ (spoilt_list second ≡ true) → (joined_of first second).refusal ≡ 14
-  no_file (inl h) = sym (ap refusal_in (spoilt_first first second h))
+  no_file : (spoilt_list first ≡ true) ⊎ (spoilt_list second ≡ true) → joined_of first second ≡ Err SpoiltSite
+  no_file (inl h) = sym (spoilt_first first second h)
   no_file (inr h) =
       by_test (spoilt_list first)
-      (λ t. sym (ap refusal_in (spoilt_first first second t)))
-      (λ f. sym (ap refusal_in (spoilt_second first second f h)))
+      (λ t. sym (spoilt_first first second t))
+      (λ f. sym (spoilt_second first second f h))
 
   pub answers : Answers first second (joined_of first second)
   answers = record {
     no_file = no_file;
-    too_many = λ b many from r l. sym (ap refusal_in (too_many first second b.of_first b.of_second _ refl (omega (arith, many_kept first second r))));
-    joined = λ b many from r l.
-        let e = joins_if first second b.of_first b.of_second (omega (arith, many_kept first second r)) in
-        (sym (ap refusal_in e), subst (λ (x : Joined). Joins first second many from x.list) e (joins_in_words first second r));
-    empty = λ n. accepted_or_empty first second (λ a. absurd (n a.none)) (λ e m. subst Empty (sym e) (refl, λ i. zeros_behind [] i (omega arith)));
+    too_many = λ b many from r l. sym (too_many first second b.of_first b.of_second _ refl (omega (arith, many_kept first second r)));
+    joined = λ b many from r l. (
+      _,
+      (sym (joins_if first second b.of_first b.of_second (omega (arith, many_kept first second r))), joins_in_words first second r),
+    );
+    empty = λ refusal e. rw e (refl, λ i. zeros_behind [] i (omega arith));
   }
 
   -- Where a file could give both lists, 17 is the one refusal.
-  pub filed_refusal : BothFiled first second → ((joined_of first second).refusal ≡ 0) ⊎ ((joined_of first second).refusal ≡ 17)
+  pub filed_refusal : BothFiled first second → IsOk (joined_of first second) ⊎ (joined_of first second ≡ Err TooManyEntries)
   filed_refusal f =
       let w = remain first second in
       by_test (leb (_ + second.count) 16)
-      (λ t. inl (answers.joined f _ _ w (leb-true _ 16 t)).0)
+      (λ t. inl (ap is_ok (answers.joined f _ _ w (leb-true _ 16 t)).1.0))
       (λ t. inr (answers.too_many f _ _ w (leb-false _ 16 t)))
 
   -- Two answers that fit the words are the same: each is refused for the same reason or has the same entries, and 0 behind them.
-  module _ (r q : Joined) (a : Answers first second r) (b : Answers first second q) (m : length r.list.rows ≡ 80) (n : length q.list.rows ≡ 80) where
-    same_answer : r.refusal ≡ q.refusal → r.list ≡ q.list → r ≡ q
-    same_answer e f = ap₂ (λ (x : ℕ) (l : PlanList). record { refusal = x; list = l }) e f
-
-    both_refused : (refusal : ℕ) → 0 < refusal → r.refusal ≡ refusal → q.refusal ≡ refusal → r ≡ q
-    both_refused refusal l e f =
-        let c = a.empty (λ z. omega arith) in
-        let d = b.empty (λ z. omega arith) in
-        same_answer (e ∙ sym f)
-        (same_list r.list q.list (c.0 ∙ sym d.0) (λ k h. absurd (omega (arith, c.0))) (λ i h. c.1 i) (λ i h. d.1 i) m n)
-
+  module _ (r q : Result PlanList Refusal) (a : Answers first second r) (b : Answers first second q)
+      (m : IfOk r (λ list. length list.rows ≡ 80)) (n : IfOk q (λ list. length list.rows ≡ 80)) where
     both_filed : BothFiled first second → r ≡ q
     both_filed f =
         let w = remain first second in
         by_test (leb (_ + second.count) 16)
         (λ t. let c = a.joined f _ _ w (leb-true _ 16 t) in
         let d = b.joined f _ _ w (leb-true _ 16 t) in
-        same_answer (c.0 ∙ sym d.0) (same_joins c.1 d.1 m n))
-        (λ t. let l = leb-false _ 16 t in both_refused 17 (omega arith) (a.too_many f _ _ w l) (b.too_many f _ _ w l))
+        c.1.0 ∙ ap Ok (same_joins c.1.1 d.1.1 (rw c.1.0 at m) (rw d.1.0 at n)) ∙ sym d.1.0)
+        (λ t. let l = leb-false _ 16 t in a.too_many f _ _ w l ∙ sym (b.too_many f _ _ w l))
 
     pub no_other_answer : r ≡ q
     no_other_answer =
         by_test (spoilt_list first)
-        (λ t. both_refused 14 (omega arith) (a.no_file (inl t)) (b.no_file (inl t)))
+        (λ t. a.no_file (inl t) ∙ sym (b.no_file (inl t)))
         (λ f. by_test (spoilt_list second)
-        (λ t. both_refused 14 (omega arith) (a.no_file (inr t)) (b.no_file (inr t)))
+        (λ t. a.no_file (inr t) ∙ sym (b.no_file (inr t)))
         (λ g. both_filed (record { of_first = f; of_second = g })))

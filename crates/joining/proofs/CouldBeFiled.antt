@@ -19,11 +19,13 @@ use Rattle.site.specs.Record.{spoilt_of}
 use Rattle.site.proofs.SpoiltLaws.{sound}
 use Rattle.plan.specs.declared.Entry.{Entry}
 use Rattle.plan.specs.Entry.{entry_of}
+use Rattle.std.specs.Prelude.{Result}
+use Rattle.refusals.specs.declared.Refusal.{Refusal}
 use Rattle.joining.specs.declared.PlanList.{PlanList}
-use Rattle.joining.specs.Joining.{entries_from, entries_of, numbers_of, list_of, is_covered, kept, joined_entries, spoilt_list, joined_of}
+use Rattle.joining.specs.Joining.{entries_from, entries_of, numbers_of, list_of, is_covered, kept, joined_entries, spoilt_list, joined_of, list_given}
 use Rattle.joining.proofs.FillingLaws.{numbers_length}
 use Rattle.joining.proofs.EntryRows.{number_of, entry_there}
-use Rattle.joining.proofs.Accepted.{accepted_or_empty}
+use Rattle.joining.proofs.Accepted.{accepted_or_refused}
 
 -- Where all numbers are allowed, none is the first that is not.
 none_bad : (k : Section) (v : List ℕ) (i n : ℕ) → ((j : ℕ) → i ≤ j → j < i + n → is_good k v j ≡ true) → first_bad k v i n ≡ i + n
@@ -116,13 +118,16 @@ filed_list es h g =
     rw (le-leb (length es) 16 h, take_at xs tail (length es * 5) n, drop_at xs tail (length es * 5) n, le-ltb (first_bad Entries xs 0 (length xs)) (length es * 5) (omega arith), zeros_replicate (80 - length xs)) refl
 
 -- The list given, an empty one too.
-pub could_be_filed : (first second : PlanList) → spoilt_list (joined_of first second).list ≡ false
+pub could_be_filed : (first second : PlanList) → spoilt_list (list_given (joined_of first second)) ≡ false
 unfolding AllGood
 could_be_filed first second =
-    accepted_or_empty first second
-    (λ a. ap spoilt_list a.given
+    accepted_or_refused first second
+    (λ a. ap spoilt_given a.given
     ∙ filed_list (joined_entries (entries_of first) (entries_of second)) a.few
     (good_append (kept (entries_of first) (entries_of second)) (entries_of second)
     (good_kept (entries_of first) (entries_of second) (good_entries first a.first_sound first.count 0 (omega arith)))
     (good_entries second a.second_sound second.count 0 (omega arith))))
-    (λ e n. ap spoilt_list e ∙ filed_list [] (omega arith) tt)
+    (λ refusal e. ap spoilt_given e ∙ filed_list [] (omega arith) tt)
+  where
+    spoilt_given : Result PlanList Refusal → Bool
+    spoilt_given r = spoilt_list (list_given r)

@@ -20,7 +20,7 @@ use Rattle.group.specs.Indications.{indications_of}
 use Rattle.state.specs.declared.State.{State}
 use Rattle.tick.specs.declared.Input.{Input}
 use Rattle.tick.specs.Checks.{tick_refusal}
-use Rattle.tick.specs.Tick.{counted_in, decided_in, cycle_in, moved_in, accepted_tick, tick_of}
+use Rattle.tick.specs.Tick.{counted_in, decided_in, cycle_in, moved_in, accepted_tick}
 use Rattle.tick.proofs.TickLaws.{refusal_is, tick_is}
 use Rattle.joining.specs.declared.PlanList.{PlanList}
 use Rattle.joining.specs.Joining.{spoilt_list}

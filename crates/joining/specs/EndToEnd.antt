@@ -1,6 +1,6 @@
 -- Document 02, 'Joining two plan lists': "At every clock the entry in force, apart from its place in the list, equals that of the two lists
 -- simply laid end to end."
-use Rattle.std.specs.Prelude.{ℕ, zero, suc, ◌+◌, ◌≡◌, List, ◌++◌, take}
+use Rattle.std.specs.Prelude.{ℕ, zero, suc, ◌+◌, ◌≡◌, List, ◌++◌, take, IsOk}
 use Rattle.std.proofs.Math.Option.{Option, none, some}
 use Rattle.ranges.specs.declared.Section.TheVariants.{Entries}
 use Rattle.ranges.specs.Sections.{size_of}
@@ -34,7 +34,7 @@ in_force_at rows count dates holidays today minute = entry_at rows (in_force_now
 
 -- No check refuses the pair. The claim below does not hold of every refused one, which gives an empty list (`Worked`).
 abbrev pub IsAccepted : PlanList → PlanList → Type 0
-IsAccepted first second = (joined_of first second).refusal ≡ 0
+IsAccepted first second = IsOk (joined_of first second)
 
 -- "At every clock": every date and minute, whatever the holidays.
 abbrev pub SameInForce : PlanList → PlanList → PlanList → Type 0

@@ -1,13 +1,14 @@
 -- Document 02's sentences on joining, in its own words beside the definition: `join` promises them too. No other answer fits them (law
 -- `no_other_answer`).
-use Rattle.std.specs.Prelude.{ℕ, ◌+◌, ◌≤◌, ◌<◌, ◌≡◌, true, false, List, ◌⊎◌, get_or}
+use Rattle.std.specs.Prelude.{ℕ, ◌+◌, ◌≤◌, ◌<◌, ◌≡◌, true, false, List, ◌⊎◌, get_or, Result, Ok, Err}
 use Rattle.ranges.specs.declared.Section.TheVariants.{Entries}
 use Rattle.ranges.specs.Sections.{greatest_of, size_of}
 use Rattle.plan.specs.declared.Entry.{Entry}
 use Rattle.plan.specs.Entry.{entry_of, on_day}
 use Rattle.joining.specs.declared.PlanList.{PlanList}
-use Rattle.joining.specs.declared.Joined.{Joined}
-use Rattle.joining.specs.Joining.{spoilt_list}
+use Rattle.refusals.specs.declared.Refusal.{Refusal}
+use Rattle.refusals.specs.declared.Refusal.TheVariants.{SpoiltSite, TooManyEntries}
+use Rattle.joining.specs.Joining.{spoilt_list, list_given}
 
 -- The other "has the same start and all its days".
 pub record Covers (other e : Entry) : Type 0 where
@@ -47,13 +48,13 @@ pub record BothFiled (first second : PlanList) : Type 0 where
   pub of_second : spoilt_list second ≡ false
 
 -- The answer, of whatever entries remain.
-pub record Answers (first second : PlanList) (r : Joined) : Type 0 where
+pub record Answers (first second : PlanList) (r : Result PlanList Refusal) : Type 0 where
   -- "14 if no file could give one of the lists",
-  pub no_file : (spoilt_list first ≡ true) ⊎ (spoilt_list second ≡ true) → r.refusal ≡ 14
+  pub no_file : (spoilt_list first ≡ true) ⊎ (spoilt_list second ≡ true) → r ≡ Err SpoiltSite
   -- then "17: more than 16 entries would remain";
-  pub too_many : BothFiled first second → (many : ℕ) (from : ℕ → ℕ) → Remain first second many from → greatest_of Entries < many + second.count → r.refusal ≡ 17
+  pub too_many : BothFiled first second → (many : ℕ) (from : ℕ → ℕ) → Remain first second many from → greatest_of Entries < many + second.count → r ≡ Err TooManyEntries
   -- else it is accepted.
   pub joined : BothFiled first second → (many : ℕ) (from : ℕ → ℕ) → Remain first second many from → many + second.count ≤ greatest_of Entries
-      → (r.refusal ≡ 0) × Joins first second many from r.list
+      → (list : PlanList) × ((r ≡ Ok list) × Joins first second many from list)
   -- "Refused, .. an empty one is given."
-  pub empty : (r.refusal ≡ 0 → ⊥) → (r.list.count ≡ 0) × ((i : ℕ) → get_or r.list.rows i 0 ≡ 0)
+  pub empty : (refusal : Refusal) → r ≡ Err refusal → ((list_given r).count ≡ 0) × ((i : ℕ) → get_or (list_given r).rows i 0 ≡ 0)

@@ -1,6 +1,6 @@
 -- Document 02, 'Joining two plan lists': "Joining puts the first list's entries in filed order before the second's. An entry of the first is
 -- dropped if one entry of the second has the same start and all its days."
-use Rattle.std.specs.Prelude.{ℕ, zero, suc, ◌+◌, ◌-◌, Bool, false, cond, not, ◌&&◌, ◌||◌, List, [], ◌∷◌, ◌++◌, ltb, eqb, length, replicate}
+use Rattle.std.specs.Prelude.{ℕ, zero, suc, ◌+◌, ◌-◌, Bool, false, cond, not, ◌&&◌, ◌||◌, List, [], ◌∷◌, ◌++◌, ltb, eqb, length, replicate, Result, Ok, Err}
 use Rattle.loops.specs.Any.{any_from}
 use Rattle.ranges.specs.declared.Section.TheVariants.{Entries}
 use Rattle.ranges.specs.Sections.{greatest_of, most_of}
@@ -8,7 +8,8 @@ use Rattle.site.specs.Record.{spoilt_of}
 use Rattle.plan.specs.declared.Entry.{Entry}
 use Rattle.plan.specs.Entry.{entry_of, day_types, on_day}
 use Rattle.joining.specs.declared.PlanList.{PlanList}
-use Rattle.joining.specs.declared.Joined.{Joined}
+use Rattle.refusals.specs.declared.Refusal.{Refusal}
+use Rattle.refusals.specs.declared.Refusal.TheVariants.{SpoiltSite, TooManyEntries}
 
 -- The next n entries of a plan's rows from entry i on, in filed order.
 abbrev pub entries_from : List ℕ → ℕ → ℕ → List Entry
@@ -59,17 +60,15 @@ list_of es = record { rows = numbers_of es ++ replicate (most_of Entries - lengt
 abbrev pub spoilt_list : PlanList → Bool
 spoilt_list l = spoilt_of Entries l.count l.rows
 
-abbrev pub answer_of : ℕ → PlanList → Joined
-answer_of refusal list = record { refusal = refusal; list = list }
-
--- "An empty one is given."
-abbrev pub refused_with : ℕ → Joined
-refused_with refusal = answer_of refusal (list_of [])
-
 -- "14 if no file could give one of the lists, 17. 17: more than 16 entries would remain."
-unfoldable pub joined_of : PlanList → PlanList → Joined
+unfoldable pub joined_of : PlanList → PlanList → Result PlanList Refusal
 joined_of first second =
     let es : List Entry = joined_entries (entries_of first) (entries_of second) in
-    cond (spoilt_list first || spoilt_list second) (refused_with 14)
-    (cond (ltb (greatest_of Entries) (length es)) (refused_with 17)
-    (answer_of 0 (list_of es)))
+    cond (spoilt_list first || spoilt_list second) (Err SpoiltSite)
+    (cond (ltb (greatest_of Entries) (length es)) (Err TooManyEntries)
+    (Ok (list_of es)))
+
+-- The list given. "Refused, .. an empty one is given."
+abbrev pub list_given : Result PlanList Refusal → PlanList
+list_given (Ok list) = list
+list_given (Err refusal) = list_of []

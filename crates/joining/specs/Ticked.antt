@@ -1,6 +1,6 @@
 -- Document 02, 'Joining two plan lists', at the tick: where the list stands in a site for its plan, a tick decides and does what it would
 -- with the two laid end to end.
-use Rattle.std.specs.Prelude.{◌≡◌, false}
+use Rattle.std.specs.Prelude.{◌≡◌, false, None}
 use Rattle.site.specs.declared.Site.{Site}
 use Rattle.site.specs.Record.{spoilt_site}
 use Rattle.state.specs.declared.State.{State}
@@ -26,5 +26,5 @@ pub record SameTicks (first second list : PlanList) : Type 0 where
   pub refusals : (x : Site) (s : State) (i : Input) → spoilt_site x ≡ false → (tick_of (with_list x list) s i).refusal ≡ (tick_of x s i).refusal
   -- An accepted tick gives what the rules give with the two laid end to end. A plan of more than 16 entries is one that no file gives, and
   -- the check for 14 would refuse it: so the second tick is the one behind the checks.
-  pub accepted : (x : Site) (s : State) (i : Input) → (tick_of (with_list x list) s i).refusal ≡ 0
+  pub accepted : (x : Site) (s : State) (i : Input) → (tick_of (with_list x list) s i).refusal ≡ None
       → SameTick (tick_of (with_list x list) s i) (accepted_tick (with_plan x (end_to_end first second) (both_counts first second)) s i)

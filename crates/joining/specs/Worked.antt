@@ -1,12 +1,13 @@
 -- Document 02, A12, worked out: what is dropped and what stays, 14, 17 and exactly 16; and that the claim on the entry in force does not
 -- hold of a refused pair.
-use Rattle.std.specs.Prelude.{ℕ, zero, suc, ◌+◌, ◌≡◌, List, [], ◌∷◌, ◌++◌}
+use Rattle.std.specs.Prelude.{ℕ, zero, suc, ◌+◌, ◌≡◌, List, [], ◌∷◌, ◌++◌, Result, Ok, Err}
 use Rattle.std.proofs.Math.Option.{none, some}
 use Rattle.calendar.specs.declared.day.Date.{Date}
 use Rattle.plan.specs.declared.Entry.{Entry}
 use Rattle.joining.specs.declared.PlanList.{PlanList}
-use Rattle.joining.specs.declared.Joined.{Joined}
-use Rattle.joining.specs.Joining.{list_of, answer_of, refused_with, joined_of}
+use Rattle.refusals.specs.declared.Refusal.{Refusal}
+use Rattle.refusals.specs.declared.Refusal.TheVariants.{SpoiltSite, TooManyEntries}
+use Rattle.joining.specs.Joining.{list_of, joined_of, list_given}
 use Rattle.joining.specs.EndToEnd.{end_to_end, both_counts, in_force_at, SameInForce}
 
 -- Days, start and rate of a fixed entry; and an entry that is dark.
@@ -32,10 +33,10 @@ always = 255
 abbrev ordinary : ℕ
 ordinary = 127
 
-abbrev given : List Entry → Joined
-given es = answer_of 0 (list_of es)
+abbrev given : List Entry → Result PlanList Refusal
+given es = Ok (list_of es)
 
-abbrev joined_from : List Entry → List Entry → Joined
+abbrev joined_from : List Entry → List Entry → Result PlanList Refusal
 joined_from first second = joined_of (list_of first) (list_of second)
 
 -- n entries, a minute apart.
@@ -77,18 +78,18 @@ pub record Worked : Type 0 where
   pub equal : joined_from (fixed weekdays 360 600 ∷ fixed weekdays 360 700 ∷ []) (fixed weekdays 360 300 ∷ fixed weekdays 360 400 ∷ [])
       ≡ given (fixed weekdays 360 300 ∷ fixed weekdays 360 400 ∷ [])
   -- 15 and 2 are too many; 15 and 1 are 16; 16 and 1 are, if one is dropped.
-  pub seventeen : joined_of standing works ≡ refused_with 17
+  pub seventeen : joined_of standing works ≡ Err TooManyEntries
   pub sixteen : joined_from (minutes 15 0) (minutes 1 15) ≡ given (minutes 16 0)
   pub one_dropped : joined_from (minutes 16 0) (minutes 1 0) ≡ given (minutes 15 1 ++ minutes 1 0)
   -- Both full: the second remains where it covers the first; where it covers nothing, 32 are too many.
   pub both_full : joined_from (minutes 16 0) (minutes 16 0) ≡ given (minutes 16 0)
-  pub thirty_two : joined_from (minutes 16 0) (minutes 16 16) ≡ refused_with 17
+  pub thirty_two : joined_from (minutes 16 0) (minutes 16 16) ≡ Err TooManyEntries
   pub empty : joined_from [] [] ≡ given []
   -- 14, for either list, and before 17: 15 and 15 would remain.
-  pub first_spoilt : joined_of above works ≡ refused_with 14
-  pub second_spoilt : joined_of (list_of (minutes 15 100)) beyond ≡ refused_with 14
-  pub number_spoilt : joined_of works too_late ≡ refused_with 14
+  pub first_spoilt : joined_of above works ≡ Err SpoiltSite
+  pub second_spoilt : joined_of (list_of (minutes 15 100)) beyond ≡ Err SpoiltSite
+  pub number_spoilt : joined_of works too_late ≡ Err SpoiltSite
   -- The pair that is refused with 17 gives an empty list, and so no entry is in force; of the two laid end to end one is.
-  pub refused_none : in_force_at (joined_of standing works).list.rows (joined_of standing works).list.count [] 0 today 600 ≡ none
+  pub refused_none : in_force_at (list_given (joined_of standing works)).rows (list_given (joined_of standing works)).count [] 0 today 600 ≡ none
   pub laid_some : in_force_at (end_to_end standing works) (both_counts standing works) [] 0 today 600 ≡ some (fixed always 101 600)
-  pub not_of_refused : SameInForce standing works (joined_of standing works).list → ⊥
+  pub not_of_refused : SameInForce standing works (list_given (joined_of standing works)) → ⊥

@@ -2,7 +2,7 @@
 ghost use Rattle.std.specs.Prelude.{◌≡◌, ◌+◌, ◌≤◌, ◌<◌, []};
 ghost use Rattle.ranges.specs.declared.Section.TheVariants.{Entries};
 ghost use Rattle.ranges.specs.Sections.{greatest_of};
-ghost use Rattle.joining.specs.Joining.{entries_from, entries_of, kept, list_of};
+ghost use Rattle.joining.specs.Joining.{entries_of, kept, list_of};
 ghost use Rattle.joining.specs.Filling.{with_entry, with_all};
 
 use crate::PlanList;
@@ -12,8 +12,10 @@ use plan::Entry;
 pub fn empty() -> PlanList
     ensures { result ≡ list_of [] }
 {
-    let rows = [0; ranges::MOST_ENTRY_NUMBERS];
-    PlanList { rows, count: 0 }
+    PlanList {
+        rows: [0; ranges::MOST_ENTRY_NUMBERS],
+        count: 0,
+    }
 }
 
 // A list with one more entry at its end.
@@ -34,19 +36,17 @@ fn with_entry(list: PlanList, e: Entry) -> PlanList
     }
 }
 
-// The entries of the first rows that none of the second covers.
-pub fn keep(rows: &[u16], count: u16, second: &[u16], others: u16) -> PlanList
-    requires { count ≤ greatest_of Entries }
-    ensures { result ≡ list_of (kept (entries_from rows.now 0 count) (entries_from second.now 0 others)) }
+// The entries of the first list that none of the second covers.
+pub fn keep(first: PlanList, second: PlanList) -> PlanList
+    requires { first.count ≤ greatest_of Entries }
+    ensures { result ≡ list_of (kept (entries_of first) (entries_of second)) }
 {
     let mut list = empty();
-    let mut i: u16 = 0;
-    while i < count {
-        let e = plan::entry_at(rows, i);
-        if crate::covering(second, others, e) == 0 {
+    for i in 0..first.count {
+        let e = plan::entry_at(&first.rows, i);
+        if crate::covering(&second, e) == 0 {
             list = with_entry(list, e);
         }
-        i += 1;
     }
     list
 }
@@ -56,13 +56,10 @@ pub fn append(list: PlanList, more: PlanList) -> PlanList
     requires { list.count + more.count ≤ greatest_of Entries }
     ensures { result ≡ with_all list (entries_of more) }
 {
-    let rows = more.rows;
     let mut longer = list;
-    let mut left = more.count;
-    while 0 < left {
-        let e = plan::entry_at(&rows, more.count - left);
+    for i in 0..more.count {
+        let e = plan::entry_at(&more.rows, i);
         longer = with_entry(longer, e);
-        left -= 1;
     }
     longer
 }

@@ -101,8 +101,6 @@ fn current_after(k: KeptSpeeds, main: Mainline, m: u16, j: u16) -> Speeds
 pub fn timed(k: KeptSpeeds, main: Mainline, m: u16) -> KeptSpeeds
     ensures { result ≡ speeds_timed k main m }
 {
-    let last = k.last;
-    let earlier = k.earlier;
     KeptSpeeds {
         current: [
             current_after(k, main, m, 0),
@@ -112,8 +110,7 @@ pub fn timed(k: KeptSpeeds, main: Mainline, m: u16) -> KeptSpeeds
             current_after(k, main, m, 4),
             current_after(k, main, m, 5),
         ],
-        last,
-        earlier,
+        ..k
     }
 }
 
@@ -148,8 +145,8 @@ fn earlier_after(k: KeptSpeeds, timed: [u16; 6], millis: [u32; 6], j: u16) -> f6
 pub fn closed(k: KeptSpeeds, timed: [u16; 6], millis: [u32; 6]) -> KeptSpeeds
     ensures { result ≡ speeds_closed k timed millis }
 {
-    let current = k.current;
     let none = no_speeds();
+    let current = k.current; // the check takes no array straight from a field into a literal
     KeptSpeeds {
         current: [none, none, none, none, none, none],
         last: current,

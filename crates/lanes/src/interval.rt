@@ -9,7 +9,7 @@ use timings::Timings;
 pub fn rise(x: u16) -> u16
     ensures { result ≡ rise_of x }
 {
-    if x < LONGEST { x + 1 } else { LONGEST }
+    x.saturating_add(1).min(LONGEST)
 }
 
 // The passages of a green with this tick's sample; they stop at 3.

@@ -9,7 +9,8 @@ ghost use Rattle.lanes.specs.Lanes.{lane_of, lanes_of, ending_of, lane_tick_at, 
 
 use timings::Timings;
 
-// A lane's colours; a lane that the site lacks has none.
+// A lane's colours; a lane that the site lacks has none. They are numbers and no enum: a damaged state may hold any, and the check of a
+// state (13) is told all of them.
 pub const RED: u16 = 1;
 
 pub const YELLOW: u16 = 2;
@@ -86,11 +87,7 @@ pub fn lane_at(s: Lanes, i: u16) -> Lane
 pub fn sample_at(samples: [u16; 4], i: u16) -> u16
     ensures { result ≡ get_or samples i 0 }
 {
-    let k = i as usize;
-    if 4 <= k {
-        return 0;
-    }
-    samples[k]
+    samples.get(i as usize).copied().unwrap_or(0)
 }
 
 // Whether a lane has been red at least the minimum.

@@ -2,12 +2,14 @@
 -- numbers, so that the levels decide as whole numbers do.
 use Prim.Native.Nat.{ℕ, zero, suc, ◌*◌, ◌≤◌}
 use mathlib.Core.Path.{◌≡◌, refl, sym, subst}
-use mathlib.Core.Bool.{true, false}
+use mathlib.Core.Bool.{Bool, true, false, not, ◌&&◌}
 use native.Mathlib.Omega.{arith}
 use borrow.Author.Tests.{lt-ltb, ltb-true}
 use lib.Dec.{ltb, eqb}
 use Rattle.loops.proofs.Cases.{by_test}
 use lib.Ieee.{Float}
+use Rattle.std.specs.Prelude.{Option}
+use Rattle.ranges.specs.Ranges.{unused}
 use Rattle.speed.specs.Speed.{speed_of, Timed, SpeedNear, TestsExactly, at_most}
 use Rattle.speed.proofs.SpeedLaws.{speed_near, speed_tests}
 use Rattle.period.specs.declared.Counts.{Counts}
@@ -15,11 +17,15 @@ use Rattle.period.specs.declared.LaneCounts.{LaneCounts}
 use Rattle.period.specs.Counts.{lane_of, good_of}
 use Rattle.period.specs.Range.{counts_spoilt}
 use Rattle.period.proofs.RangeLaws.{CountsGood, counts_good, most_most}
-use Rattle.levels.specs.declared.measure.Measured.{Measured}
+use Rattle.levels.specs.declared.measure.Measures.{Measures}
 use Rattle.levels.specs.declared.Level.{Level}
-use Rattle.levels.specs.Measures.{over_good, totals_of, measures_of, measured_of, OfSpeed}
+use Rattle.levels.specs.Measures.{over_good, totals_of, speed_over, measures_of, measured_of, OfSpeed}
 use Rattle.levels.specs.Levels.{is_slow, is_met, decides}
 use Rattle.levels.specs.ByCounts.{slow_by_counts, met_by_counts, decides_by_counts}
+
+never : (a : Bool) → false ≡ (a && false)
+never true = refl
+never false = refl
 
 module _ (c : Counts) (n m ticks : ℕ) (few : ticks ≤ 300) (lanes : m ≤ 6) (good : CountsGood c n m ticks) where
   abbrev timed : LaneCounts → ℕ
@@ -64,7 +70,7 @@ module _ (c : Counts) (n m ticks : ℕ) (few : ticks ≤ 300) (lanes : m ≤ 6) 
 
   -- What holds of the speed where a vehicle was timed holds of what was measured.
   of_speed : (P : Float → ℕ → ℕ → Type 0) → ((v ms : ℕ) → Timed v ms → P (speed_of v ms) v ms) → OfSpeed P (totals_of c m) (measured_of c m)
-  unfolding measured_of measures_of
+  unfolding measured_of measures_of speed_over
   of_speed P law =
       by_test (eqb (totals_of c m).lanes 0) (λ q. rw q tt)
       (λ q. rw q (λ some. let k = lt-ltb 0 (totals_of c m).timed some in rw k (law (totals_of c m).timed (totals_of c m).millis (totals_timed k))))
@@ -76,22 +82,22 @@ module _ (c : Counts) (n m ticks : ℕ) (few : ticks ≤ 300) (lanes : m ≤ 6) 
   exact = of_speed TestsExactly speed_tests
 
   -- A level's test of the speed is one of whole numbers.
-  slow_by_counts_lem : (threshold : ℕ) → is_slow threshold (measures_of (totals_of c m)).known (measures_of (totals_of c m)).speed ≡ slow_by_counts threshold (totals_of c m)
-  unfolding is_slow slow_by_counts measures_of at_most TestsExactly
+  slow_by_counts_lem : (threshold : ℕ) → is_slow threshold (measures_of (totals_of c m)).speed ≡ slow_by_counts threshold (totals_of c m)
+  unfolding is_slow slow_by_counts measures_of speed_over at_most TestsExactly
   slow_by_counts_lem threshold =
       by_test (ltb 0 (totals_of c m).timed)
       (λ k. rw (k, speed_tests (totals_of c m).timed (totals_of c m).millis (totals_timed k) threshold))
-      (λ k. rw k)
+      (λ k. rw k (never (not (eqb threshold unused))))
 
   pub by_counts : (l : Level) (table : ℕ) → decides l table (measures_of (totals_of c m)) ≡ decides_by_counts l table (totals_of c m)
   unfolding decides is_met decides_by_counts met_by_counts measures_of
   by_counts l table = rw (slow_by_counts_lem l.speed)
 
 -- What the call promises of its answer.
-abbrev Promised : Counts → ℕ → Measured → (Float → ℕ → ℕ → Type 0) → Type 0
+abbrev Promised : Counts → ℕ → Option Measures → (Float → ℕ → ℕ → Type 0) → Type 0
 Promised c m r holds = (n ticks : ℕ) → ticks ≤ 300 → m ≤ 6 → counts_spoilt c n m ticks ≡ false → OfSpeed holds (totals_of c m) r
 
-pub with_exact : (c : Counts) (m : ℕ) (r : Measured) → r ≡ measured_of c m
+pub with_exact : (c : Counts) (m : ℕ) (r : Option Measures) → r ≡ measured_of c m
     → (r ≡ measured_of c m) × (Promised c m r SpeedNear × Promised c m r TestsExactly)
 with_exact c m r is = (
   is,

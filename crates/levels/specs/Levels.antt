@@ -1,7 +1,7 @@
 -- Document 01, 'What is wanted': "The level of its table listed last among those met decides." "A level is met if flow or occupancy is at
 -- or above, or a known mean speed at or below, a threshold in use." Document 02, A8: the speed is no mean of speeds any more, and is not
 -- rounded.
-use Rattle.std.specs.Prelude.{ℕ, zero, suc, ◌+◌, ◌*◌, ◌<◌, ◌≡◌, Bool, true, false, cond, not, ◌&&◌, ◌||◌, List, leb, eqb, get_or, Float}
+use Rattle.std.specs.Prelude.{ℕ, zero, suc, ◌+◌, ◌*◌, ◌<◌, ◌≡◌, Bool, true, false, cond, not, ◌&&◌, ◌||◌, List, leb, eqb, get_or, Float, Option, Some, None}
 use Rattle.speed.specs.Speed.{at_most}
 use Rattle.ranges.specs.declared.Section.TheVariants.{Levels}
 use Rattle.ranges.specs.Ranges.{unused}
@@ -26,11 +26,12 @@ unfoldable pub reaches_of : ℕ → ℕ → Bool
 reaches_of threshold measure = not (eqb threshold unused) && leb threshold measure
 
 -- "A known .. speed at or below", "no longer rounded down" (document 02, A8).
-unfoldable pub is_slow : ℕ → Bool → Float → Bool
-is_slow threshold known speed = not (eqb threshold unused) && (known && at_most speed threshold)
+unfoldable pub is_slow : ℕ → Option Float → Bool
+is_slow threshold None = false
+is_slow threshold (Some speed) = not (eqb threshold unused) && at_most speed threshold
 
 unfoldable pub is_met : Level → Measures → Bool
-is_met l q = reaches_of l.flow q.flow || (reaches_of l.occupancy q.occupancy || is_slow l.speed q.known q.speed)
+is_met l q = reaches_of l.flow q.flow || (reaches_of l.occupancy q.occupancy || is_slow l.speed q.speed)
 
 -- A level of the table asked for that is met.
 unfoldable pub decides : Level → ℕ → Measures → Bool

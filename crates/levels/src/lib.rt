@@ -6,7 +6,8 @@ mod measure;
 ghost use Rattle.std.specs.Prelude.{◌≡◌};
 ghost use Rattle.levels.specs.Levels.{level_of, reaches_of, is_slow, is_met, decides, deciding_of, ListedLast};
 
-pub use measure::{Measured, Measures, Totals, measured_on};
+pub use measure::{Measures, Totals, measured_on};
+use numbers::Rows;
 
 // One level of a level table.
 #[derive(Clone, Copy)]
@@ -47,16 +48,13 @@ fn reaches(threshold: u16, measure: u64) -> bool
 }
 
 // Whether a threshold is in use and a known speed is at or below it.
-fn is_slow(threshold: u16, known: bool, speed: f64) -> bool
-    ensures { result ≡ is_slow threshold known speed }
+fn is_slow(threshold: u16, speed: Option<f64>) -> bool
+    ensures { result ≡ is_slow threshold speed }
 {
-    if threshold == ranges::UNUSED {
-        return false;
+    match speed {
+        None => false,
+        Some(x) => threshold != ranges::UNUSED && speed::at_most(x, threshold),
     }
-    if !known {
-        return false;
-    }
-    speed::at_most(speed, threshold)
 }
 
 // Whether one of a level's thresholds in use is reached.
@@ -69,7 +67,7 @@ fn is_met(l: Level, q: Measures) -> bool
     if reaches(l.occupancy, q.occupancy) {
         return true;
     }
-    is_slow(l.speed, q.known, q.speed)
+    is_slow(l.speed, q.speed)
 }
 
 // Whether a level is of a table, and met.
@@ -84,17 +82,14 @@ fn decides_for(l: Level, table: u16, q: Measures) -> bool
 
 // The place from 1 of the level of a table that decides, the one listed last among those met; 0 for
 // none.
-pub fn deciding(rows: &[u16], count: u16, table: u16, q: Measures) -> u16
-    ensures is { result ≡ deciding_of rows.now count table q }
-    ensures last { ListedLast (λ j. decides (level_of rows.now j) table q) count result }
+pub fn deciding(levels: Rows, table: u16, q: Measures) -> u16
+    ensures is { result ≡ deciding_of levels.entry.numbers.now levels.entry.count table q }
+    ensures last { ListedLast (λ j. decides (level_of levels.entry.numbers.now j) table q) levels.entry.count result }
 {
-    let mut place = count;
-    while 0 < place {
-        let l = level_at(rows, place - 1);
-        if decides_for(l, table, q) {
-            return place;
+    for i in (0..levels.count).rev() {
+        if decides_for(level_at(levels.numbers, i), table, q) {
+            return i + 1;
         }
-        place -= 1;
     }
     0
 }

@@ -2,7 +2,7 @@
 ghost use Rattle.std.specs.Prelude.{◌≡◌, false, ℕ, ◌*◌, ◌/◌, ◌≤◌, ◌<◌};
 ghost use Rattle.period.specs.Range.{counts_spoilt};
 ghost use Rattle.speed.specs.Speed.{SpeedNear, TestsExactly};
-ghost use Rattle.levels.specs.Measures.{totals_of, measured_of, OfSpeed};
+ghost use Rattle.levels.specs.Measures.{totals_of, speed_over, measured_of, OfSpeed};
 
 use period::Counts;
 
@@ -29,16 +29,8 @@ pub struct Measures {
     pub flow: u64,
     // tenths of a percent
     pub occupancy: u64,
-    // whether a vehicle was timed, and the speed in km/h
-    pub known: bool,
-    pub speed: f64,
-}
-
-// What there is to measure by.
-#[derive(Clone, Copy)]
-pub enum Measured {
-    NoGoodLane,
-    Over(Measures),
+    // km/h, if a vehicle was timed
+    pub speed: Option<f64>,
 }
 
 // The totals over the good ones of m mainline lanes.
@@ -51,8 +43,7 @@ fn lane_totals(c: Counts, m: u16) -> Totals
     let mut occupied: u64 = 0;
     let mut timed: u64 = 0;
     let mut millis: u64 = 0;
-    let mut j: u16 = 0;
-    while j < m {
+    for j in 0..m {
         let lane = period::lane_counts(c, j);
         if period::is_good(lane) {
             lanes += 1;
@@ -61,7 +52,6 @@ fn lane_totals(c: Counts, m: u16) -> Totals
             timed += lane.timed as u64;
             millis += lane.millis as u64;
         }
-        j += 1;
     }
     Totals {
         lanes,
@@ -80,32 +70,31 @@ fn flow_of(vehicles: u64, lanes: u16) -> u64
     vehicles * PERIODS_IN_AN_HOUR / (lanes as u64)
 }
 
+// The speed over all vehicles timed, if there is one.
+fn speed_over(t: Totals) -> Option<f64>
+    requires { (t.timed ≤ 4294967295) × (t.millis ≤ 281474976710656) }
+    ensures { result ≡ speed_over t }
+{
+    if t.timed == 0 {
+        return None;
+    }
+    Some(speed::quotient(t.timed, t.millis))
+}
+
 // What a period's counts measured on m mainline lanes, if one of them was good. Where they are in range, the speed is off by at most its
 // exact value ÷ 2^52, and testing it against a whole threshold is testing whole numbers.
-pub fn measured_on(c: Counts, m: u16) -> Measured
+pub fn measured_on(c: Counts, m: u16) -> Option<Measures>
     ensures is { result ≡ measured_of c m }
     ensures near { (n ticks : ℕ) → ticks ≤ 300 → m ≤ 6 → counts_spoilt c n m ticks ≡ false → OfSpeed SpeedNear (totals_of c m) result }
     ensures exact { (n ticks : ℕ) → ticks ≤ 300 → m ≤ 6 → counts_spoilt c n m ticks ≡ false → OfSpeed TestsExactly (totals_of c m) result }
 {
     let t = lane_totals(c, m);
-    let lanes = t.lanes;
-    if lanes == 0 {
-        return Measured::NoGoodLane;
+    if t.lanes == 0 {
+        return None;
     }
-    let flow = flow_of(t.vehicles, lanes);
-    let occupancy = t.occupied / (TENTH_OF_A_PERCENT * (lanes as u64));
-    if t.timed == 0 {
-        return Measured::Over(Measures {
-            flow,
-            occupancy,
-            known: false,
-            speed: 0.0,
-        });
-    }
-    Measured::Over(Measures {
-        flow,
-        occupancy,
-        known: true,
-        speed: speed::quotient(t.timed, t.millis),
+    Some(Measures {
+        flow: flow_of(t.vehicles, t.lanes),
+        occupancy: t.occupied / (TENTH_OF_A_PERCENT * (t.lanes as u64)),
+        speed: speed_over(t),
     })
 }

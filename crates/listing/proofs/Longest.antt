@@ -3,11 +3,15 @@
 use Prim.Native.Nat.{ℕ, zero, suc, ◌+◌, ◌-◌, ◌*◌, ◌^◌, ◌≤◌, ◌<◌}
 use mathlib.Core.Path.{◌≡◌, refl}
 use mathlib.Core.Bool.{Bool, true, false, cond}
-use mathlib.Core.List.{List, []}
+use mathlib.Core.List.{List}
 use native.Mathlib.Omega.{arith}
 use borrow.Author.Tests.{ltb-true, eqb-true, eqb-false}
 use lib.Dec.{ltb, eqb}
 use lib.ListN.{length, length-append}
+use Rattle.std.specs.Prelude.{Result, Ok, Err, IfOk, IfErr}
+use Rattle.refusals.specs.declared.Refusal.{Refusal}
+use Rattle.refusals.specs.Numbers.{number_of}
+use Rattle.refusals.proofs.NumberLaws.{number_most}
 use Rattle.text.specs.Decimal.{decimal}
 use Rattle.text.proofs.DecimalLaws.{tens, decimal_most}
 use Rattle.phrases.specs.Phrases.{refusal_line}
@@ -16,7 +20,7 @@ use Rattle.entry_text.proofs.Names.{timed_most}
 use Rattle.plan.specs.declared.Entry.{Entry}
 use Rattle.plan.specs.Entry.{entry_of, on_day}
 use Rattle.site.specs.declared.Site.{Site}
-use Rattle.site.specs.declared.ReadSite.{ReadSite}
+use Rattle.site.specs.declared.Misread.{Misread}
 use Rattle.site.specs.Record.{spoilt_site}
 use Rattle.site.proofs.RowLaws.{entries_most, entry_rate_most, entry_table_most}
 use Rattle.listing.specs.Timetable.{line_of, line_if, starting_at, minutes_from, days_from, timetable_of, printed_of, longest_text}
@@ -30,9 +34,11 @@ line_most_lem day filed e r t =
     (λ f. simp length-append (omega arith), λ f. simp length-append (omega arith))
 
 -- What a refused file prints.
-refusal_most : (refusal place : ℕ) → refusal < 1000 → place < tens 19 → length (refusal_line refusal place) ≤ 36
+refusal_most : (refusal : Refusal) (place : ℕ) → place < tens 19 → length (refusal_line refusal place) ≤ 36
 unfolding refusal_line
-refusal_most refusal place r p = simp length-append (omega (arith, decimal_most 2 refusal r, decimal_most 19 place p))
+refusal_most refusal place p =
+    let r : number_of refusal < tens 2 = omega (arith, number_most refusal) in
+    simp length-append (omega (arith, decimal_most 2 (number_of refusal) r, decimal_most 19 place p))
 
 -- The most bytes of a line in place i + 1, and of n entries' lines on one day from there on.
 abbrev line_most : ℕ → ℕ
@@ -124,12 +130,7 @@ module _ (x : Site) (ok : spoilt_site x ≡ false) where
   timetable_most = rw length-append (omega (arith, days_most 0 8))
 
 -- What is printed of what reading gave.
-printed_case : (r : ReadSite) (b : Bool) → eqb r.refusal 0 ≡ b → r.refusal < 1000 → r.place < tens 19
-    → (r.refusal ≡ 0 → spoilt_site r.site ≡ false)
-    → length (printed_of r) ≤ longest_text
+pub printed_most : (r : Result Site Misread) → IfErr r (λ m. m.place < 2 ^ 64) → IfOk r (λ x. spoilt_site x ≡ false) → length (printed_of r) ≤ longest_text
 unfolding printed_of
-printed_case r true e n p ok = rw e (timetable_most r.site (ok (eqb-true r.refusal 0 e)))
-printed_case r false e n p ok = rw e (omega (arith, refusal_most r.refusal r.place n p))
-
-pub printed_most : (r : ReadSite) → r.refusal < 2 ^ 8 → r.place < 2 ^ 64 → (r.refusal ≡ 0 → spoilt_site r.site ≡ false) → length (printed_of r) ≤ longest_text
-printed_most r n p ok = printed_case r _ refl (omega arith) (omega arith) ok
+printed_most (Ok x) p ok = timetable_most x ok
+printed_most (Err m) p ok = omega (arith, refusal_most m.refusal m.place (omega arith))

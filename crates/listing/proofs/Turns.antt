@@ -10,13 +10,10 @@ use Rattle.plan.specs.Entry.{entry_of, on_day}
 use Rattle.listing.proofs.NextStart.{NextStart}
 use Rattle.listing.specs.Timetable.{line_if, starting_at, minutes_from, days_from}
 
-pub entries_turn : (rows : List ℕ) (day minute count left : ℕ) → 0 < left → left ≤ count
-    → starting_at rows day minute (count - left) left
-    ≡ line_if day minute (entry_of rows (count - left)) (count - left + 1) ++ starting_at rows day minute (count - (left - 1)) (left - 1)
-entries_turn rows day minute count left h k =
-    let e : left ≡ suc (left - 1) = omega arith in
-    let i : count - (left - 1) ≡ count - left + 1 = omega arith in
-    rw i (ap (starting_at rows day minute (count - left)) e)
+pub entries_turn : (rows : List ℕ) (day minute count i : ℕ) → i < count
+    → starting_at rows day minute i (count - i)
+    ≡ line_if day minute (entry_of rows i) (i + 1) ++ starting_at rows day minute (i + 1) (count - (i + 1))
+entries_turn rows day minute count i h = let e : count - i ≡ suc (count - (i + 1)) = omega arith in ap (starting_at rows day minute i) e
 
 pub minutes_turn : (rows : List ℕ) (count day minute : ℕ) → minute < 1440
     → minutes_from rows count day minute (1440 - minute) ≡ starting_at rows day minute 0 count ++ minutes_from rows count day (minute + 1) (1440 - (minute + 1))

@@ -1,13 +1,13 @@
 -- Document 01, 'Worked runs': what the timetable program prints. "Per day type in bit order, entries by start, equal starts as filed: day,
 -- start as hh:mm, mode, rate, table, place in the file from 1, one blank between."
-use Rattle.std.specs.Prelude.{ℕ, zero, suc, ◌+◌, ◌*◌, cond, List, [], ◌++◌, eqb}
+use Rattle.std.specs.Prelude.{ℕ, zero, suc, ◌+◌, ◌*◌, cond, List, [], ◌++◌, eqb, Result, Ok, Err}
 use Rattle.text.specs.Ascii.{ascii}
 use Rattle.phrases.specs.Phrases.{day_name, blank_and_decimal, refusal_line}
 use Rattle.entry_text.specs.EntryText.{timed_text}
 use Rattle.plan.specs.declared.Entry.{Entry}
 use Rattle.plan.specs.Entry.{entry_of, day_types, on_day}
 use Rattle.site.specs.declared.Site.{Site}
-use Rattle.site.specs.declared.ReadSite.{ReadSite}
+use Rattle.site.specs.declared.Misread.{Misread}
 use Rattle.site.specs.Reading.{read_of}
 
 -- An entry's line on one day; it is the filed-th of the file.
@@ -40,8 +40,9 @@ unfoldable pub timetable_of : Site → List ℕ
 timetable_of x = ascii "day start mode rate table filed\n" ++ days_from x.plan x.entries 0 day_types
 
 -- What is printed of what reading gave: "A refused file prints only `refused N at P`."
-unfoldable pub printed_of : ReadSite → List ℕ
-printed_of r = cond (eqb r.refusal 0) (timetable_of r.site) (refusal_line r.refusal r.place)
+unfoldable pub printed_of : Result Site Misread → List ℕ
+printed_of (Ok x) = timetable_of x
+printed_of (Err m) = refusal_line m.refusal m.place
 
 -- What is printed of a site file's bytes.
 abbrev pub text_of : List ℕ → List ℕ

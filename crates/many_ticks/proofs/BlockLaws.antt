@@ -6,8 +6,9 @@ use mathlib.Core.Bool.{false}
 use mathlib.Core.List.{List, [], ◌∷◌, ◌++◌, append_assoc}
 use native.Mathlib.Omega.{arith}
 use native.Mathlib.Nat.{zero-add}
-use borrow.Author.Tests.{eqb-true, eqb-false}
-use lib.Dec.{eqb}
+use Rattle.std.specs.Prelude.{None}
+use Rattle.std.specs.Option.{is_none}
+use Rattle.std.proofs.lemmas.Option.{none-some}
 use lib.ListN.{length, take, drop, length-take, length-drop, length-append}
 use lib.Seq.{take-append-le, drop-append-le, take-append_seam, drop-append_seam, drop-drop}
 use Rattle.loops.proofs.Cases.{by_test}
@@ -21,7 +22,7 @@ use Rattle.tick_record.specs.Record.{record_size}
 use Rattle.tick_record.proofs.RecordLaws.{some_record}
 use Rattle.many_ticks.specs.Many.{records_at, ticked_at, shown_bytes, record_refusal, Run, behind_tick, run_from, run_of, output_of}
 use Rattle.many_ticks.specs.Blocks.{run_on, rest_of, first_of, second_of, InBlocks}
-use Rattle.many_ticks.proofs.StepLaws.{taken, laid_length}
+use Rattle.many_ticks.proofs.StepLaws.{none_is, some_is, taken, laid_length}
 use Rattle.many_ticks.proofs.RunLaws.{at_end, at_refused, at_accepted}
 use Rattle.many_ticks.proofs.SinglyLaws.{call_is}
 
@@ -39,20 +40,20 @@ module _ (x : Site) where
   run_kept [] s room good = good
   run_kept (r ∷ records) s room good =
       let after = (ticked_at x s r).state in
-      by_test (eqb (record_refusal x s room r) 0)
-      (λ e. rw e (run_kept records after (room - width) (good_state after (shape_of x) (taken x s r room (eqb-true _ _ e)).kept)))
+      by_test (is_none (record_refusal x s room r))
+      (λ e. rw e (run_kept records after (room - width) (good_state after (shape_of x) (taken x s r room (none_is _ e)).kept)))
       (λ e. rw e good)
 
   -- A block of which nothing is refused: its first record is accepted,
-  first_accepted : (s : State) (room : ℕ) (a : List ℕ) → 0 < length a → (run_from x s room (records_at x a)).refusal ≡ 0
-      → record_refusal x s room (take size a) ≡ 0
+  first_accepted : (s : State) (room : ℕ) (a : List ℕ) → 0 < length a → (run_from x s room (records_at x a)).refusal ≡ None
+      → record_refusal x s room (take size a) ≡ None
   first_accepted s room a more none =
-      by_test (eqb (record_refusal x s room (take size a)) 0)
-      (λ e. eqb-true _ _ e)
-      (λ e. rw (at_refused x s room a more (eqb-false _ _ e)) at none)
+      by_test (is_none (record_refusal x s room (take size a)))
+      (λ e. none_is _ e)
+      (λ e. rw (at_refused x s room a more (some_is _ e)) at none)
 
   -- and whole, so that the block is as long.
-  first_whole : (s : State) (room : ℕ) (a : List ℕ) → record_refusal x s room (take size a) ≡ 0 → size ≤ length a
+  first_whole : (s : State) (room : ℕ) (a : List ℕ) → record_refusal x s room (take size a) ≡ None → size ≤ length a
   first_whole s room a ok = omega (arith, (taken x s (take size a) room ok).whole, length-take size a)
 
   -- A run, and behind it that of the next block: from the state that it leaves, in the room that is left.
@@ -74,7 +75,7 @@ module _ (x : Site) where
         rw (left, count, append_assoc shown run.laid rest.laid)
 
     -- behind an accepted record, where it is so behind the rest of the block.
-    on_accepted : (a : List ℕ) (s : State) (room : ℕ) (more : 0 < length a) (ok : record_refusal x s room (take size a) ≡ 0)
+    on_accepted : (a : List ℕ) (s : State) (room : ℕ) (more : 0 < length a) (ok : record_refusal x s room (take size a) ≡ None)
         → let after = (ticked_at x s (take size a)).state in
         let rest = drop size a in
         run_from x after (room - width) (records_at x (rest ++ b)) ≡ go_on b (room - width) (run_from x after (room - width) (records_at x rest))
@@ -92,7 +93,7 @@ module _ (x : Site) where
         ∙ ap (go_on b room) (sym (at_accepted x s room a more ok))
 
     -- So it is behind each block of which nothing is refused, of k bytes at the most.
-    run_on_lem : (k : ℕ) (a : List ℕ) (s : State) (room : ℕ) → length a ≤ k → (run_from x s room (records_at x a)).refusal ≡ 0
+    run_on_lem : (k : ℕ) (a : List ℕ) (s : State) (room : ℕ) → length a ≤ k → (run_from x s room (records_at x a)).refusal ≡ None
         → run_from x s room (records_at x (a ++ b)) ≡ go_on b room (run_from x s room (records_at x a))
     run_on_lem zero [] s room most none = on_end s room
     run_on_lem zero (y ∷ a) s room most none = absurd (omega arith)
@@ -118,15 +119,15 @@ output_on f g out =
     rw (take-append_seam f.laid (drop n out), rest_is f out, drop-drop m n out, length-append f.laid g.laid)
     (append_assoc f.laid g.laid (drop (n + m) out))
 
-module _ (x : Site) (s : State) (a b out : List ℕ) (none : (first_of x s a out).refusal ≡ 0) where
+module _ (x : Site) (s : State) (a b out : List ℕ) (none : (first_of x s a out).refusal ≡ None) where
   -- Where nothing is refused, site and state are in range,
   in_range : (spoilt_site x ≡ false) × (state_spoilt s (shape_of x) ≡ false)
   unfolding first_of run_of
   in_range =
       by_test (spoilt_site x)
-      (λ e. let z : ◌≡◌ {A = ℕ} 14 0 = rw e at none in absurd (omega (arith, z)))
+      (λ e. absurd (none-some _ (sym (rw e at none))))
       (λ ok. by_test (state_spoilt s (shape_of x))
-      (λ e. let z : ◌≡◌ {A = ℕ} 13 0 = rw (ok, e) at none in absurd (omega (arith, z)))
+      (λ e. absurd (none-some _ (sym (rw (ok, e) at none))))
       (λ good. (ok, good)))
 
   -- so that the first call is a run,

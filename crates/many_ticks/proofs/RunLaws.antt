@@ -6,9 +6,10 @@ use mathlib.Core.List.{List, [], ◌∷◌}
 use native.Mathlib.Omega.{arith}
 use native.Mathlib.Nat.{zero-mul, suc-mul}
 use native.Mathlib.Numerals.{add-one}
-use borrow.Author.Tests.{eq-eqb, ne_eqb, eqb-true}
+use Rattle.std.specs.Prelude.{Option, None}
+use Rattle.std.specs.Option.{is_none}
+use Rattle.refusals.specs.declared.Refusal.{Refusal}
 use lib.ListN.{length, take, drop, length-drop, length-take, length-append}
-use lib.Dec.{eqb}
 use lib.Seq.{sets, length-sets, drop-drop}
 use borrow.Rule.Slice.PartMut.{put_mid}
 use Rattle.loops.proofs.Cases.{by_test}
@@ -22,7 +23,7 @@ use Rattle.tick_record.specs.Record.{record_size}
 use Rattle.tick_record.proofs.RecordLaws.{some_record}
 use Rattle.many_ticks.specs.Many.{records_at, ticked_at, shown_bytes, record_refusal, Run, ends_with, behind_tick, run_from, ran_of, output_of}
 use Rattle.many_ticks.proofs.PartLaws.{first_part, lend_back}
-use Rattle.many_ticks.proofs.StepLaws.{taken, laid_length}
+use Rattle.many_ticks.proofs.StepLaws.{none_is, not_none, taken, laid_length}
 
 module _ (x : Site) where
   abbrev size : ℕ
@@ -41,27 +42,27 @@ module _ (x : Site) where
 
   module _ (s : State) (room : ℕ) where
     -- At the end nothing is left to do;
-    pub at_end : (b : List ℕ) → length b ≡ 0 → run_from x s room (records_at x b) ≡ ends_with s 0
+    pub at_end : (b : List ℕ) → length b ≡ 0 → run_from x s room (records_at x b) ≡ ends_with s None
     at_end [] h = rw no_records
     at_end (y ∷ b) h = absurd (omega arith)
 
     module _ (b : List ℕ) (more : 0 < length b) where
       -- a refused record ends the run;
-      pub at_refused : (record_refusal x s room (take size b) ≡ 0 → ⊥) → run_from x s room (records_at x b) ≡ ends_with s (record_refusal x s room (take size b))
-      at_refused e = rw (first_record b more, ne_eqb _ _ e)
+      pub at_refused : (record_refusal x s room (take size b) ≡ None → ⊥) → run_from x s room (records_at x b) ≡ ends_with s (record_refusal x s room (take size b))
+      at_refused e = rw (first_record b more, not_none _ e)
 
       -- behind an accepted one comes the run of the rest.
-      pub at_accepted : record_refusal x s room (take size b) ≡ 0
+      pub at_accepted : record_refusal x s room (take size b) ≡ None
           → run_from x s room (records_at x b)
           ≡ behind_tick (shown_bytes (metered_lanes x) (ticked_at x s (take size b)).shown) (run_from x (ticked_at x s (take size b)).state (room - width) (records_at x (drop size b)))
-      at_accepted e = rw (first_record b more, eq-eqb _ _ e)
+      at_accepted e = rw (first_record b more, ap is_none e)
 
   -- No more is laid than there is room.
   pub laid_fits : (records : List (List ℕ)) (s : State) (room : ℕ) → length (run_from x s room records).laid ≤ room
   laid_fits [] s room = omega arith
   laid_fits (r ∷ records) s room =
-      by_test (eqb (record_refusal x s room r) 0)
-      (λ e. let a = eqb-true _ _ e in
+      by_test (is_none (record_refusal x s room r))
+      (λ e. let a = none_is _ e in
       let h = laid_fits records (ticked_at x s r).state (room - width) in
       let w = laid_length x s r room a in
       let t = (taken x s r room a).room_left in
@@ -72,9 +73,9 @@ module _ (x : Site) where
   pub laid_counted : (records : List (List ℕ)) (s : State) (room : ℕ) → length (run_from x s room records).laid ≡ (run_from x s room records).accepted * width
   laid_counted [] s room = sym (zero-mul width)
   laid_counted (r ∷ records) s room =
-      by_test (eqb (record_refusal x s room r) 0)
+      by_test (is_none (record_refusal x s room r))
       (λ e. let h = laid_counted records (ticked_at x s r).state (room - width) in
-      let w = laid_length x s r room (eqb-true _ _ e) in
+      let w = laid_length x s r room (none_is _ e) in
       let run = run_from x (ticked_at x s r).state (room - width) records in
       let more : (run.accepted + 1) * width ≡ run.accepted * width + width = rw (add-one, suc-mul) (omega arith) in
       rw (e, length-append (shown_bytes (metered_lanes x) (ticked_at x s r).shown) run.laid) (omega (arith, h, w, more)))
@@ -113,7 +114,7 @@ module _ (x : Site) where
         }
 
     -- Where nothing of it is accepted any more, it has come to what it comes to.
-    pub left_ends : (s : State) (from at accepted refusal : ℕ) (out : List ℕ) → Left first records out₀ s from at accepted out
+    pub left_ends : (s : State) (from at accepted : ℕ) (refusal : Option Refusal) (out : List ℕ) → Left first records out₀ s from at accepted out
         → run_from x s (length out₀ - at) (records_at x (drop from records)) ≡ ends_with s refusal
         → (record { refusal = refusal; accepted = accepted; state = s } ≡ ran_of whole) × (out ≡ output_of whole out₀)
     unfolding ran_of output_of
@@ -128,7 +129,7 @@ module _ (x : Site) where
     -- A turn: the next record is accepted, and its bytes are laid at this place.
     pub left_turn : (s : State) (from at accepted : ℕ) (out : List ℕ) → Left first records out₀ s from at accepted out
         → from < length records
-        → (t : record_refusal x s (length out₀ - at) (take size (drop from records)) ≡ 0)
+        → (t : record_refusal x s (length out₀ - at) (take size (drop from records)) ≡ None)
         → (after : State) → after ≡ (ticked_at x s (take size (drop from records))).state
         → (end : ℕ) → end ≡ from + size
         → (wide : ℕ) → wide ≡ width

@@ -6,8 +6,8 @@ use mathlib.Core.Bool.{true, false}
 use mathlib.Core.List.{List, [], ◌∷◌, ◌++◌}
 use native.Mathlib.Omega.{arith}
 use native.Mathlib.Numerals.{add-one}
-use borrow.Author.Tests.{eq-eqb, eqb-true, eqb-false}
-use lib.Dec.{eqb}
+use Rattle.std.specs.Prelude.{None}
+use Rattle.std.specs.Option.{is_none}
 use lib.ListN.{length, length-append}
 use Rattle.loops.proofs.Cases.{by_test}
 use Rattle.site.specs.declared.Site.{Site}
@@ -20,7 +20,7 @@ use Rattle.tick.specs.declared.Ticked.{Ticked}
 use Rattle.tick.specs.Course.{Call, Course, answer_to, is_accepted, onward}
 use Rattle.many_ticks.specs.Many.{records_at, input_at, ticked_at, shown_bytes, record_refusal, Run, ends_with, behind_tick, run_from, run_of}
 use Rattle.many_ticks.specs.Singly.{Singly}
-use Rattle.many_ticks.proofs.StepLaws.{taken, ticked_refusal, laid_length}
+use Rattle.many_ticks.proofs.StepLaws.{none_is, some_is, taken, ticked_refusal, laid_length}
 
 -- The single call of a record,
 abbrev call_at : Site → List ℕ → Call
@@ -37,12 +37,12 @@ module _ (x : Site) (c : Course) (r : List ℕ) where
   state_is = ap (λ (t : Ticked). t.state) answer_is
 
   -- Where the record is accepted, so is the call.
-  is_accepted_lem : (room : ℕ) → record_refusal x c.state room r ≡ 0 → is_accepted c (call_at x r) ≡ true
+  is_accepted_lem : (room : ℕ) → record_refusal x c.state room r ≡ None → is_accepted c (call_at x r) ≡ true
   unfolding is_accepted
-  is_accepted_lem room e = rw answer_is (eq-eqb _ _ (ticked_refusal x c.state r ∙ (taken x c.state r room e).no_check))
+  is_accepted_lem room e = rw answer_is (ap is_none (ticked_refusal x c.state r ∙ (taken x c.state r room e).no_check))
 
 -- Without records there is nothing to do;
-singly_end : (x : Site) (c : Course) (room : ℕ) → Singly x c [] room (ends_with c.state 0)
+singly_end : (x : Site) (c : Course) (room : ℕ) → Singly x c [] room (ends_with c.state None)
 singly_end x c room = record {
   accepted = refl;
   state = refl;
@@ -54,7 +54,7 @@ singly_end x c room = record {
 
 module _ (x : Site) (c : Course) (r : List ℕ) (records : List (List ℕ)) (room : ℕ) where
   -- a refused record ends the run;
-  singly_refused : (record_refusal x c.state room r ≡ 0 → ⊥) → Singly x c (r ∷ records) room (ends_with c.state (record_refusal x c.state room r))
+  singly_refused : (record_refusal x c.state room r ≡ None → ⊥) → Singly x c (r ∷ records) room (ends_with c.state (record_refusal x c.state room r))
   singly_refused f =
       let e : room - 0 ≡ room = omega arith in
       record {
@@ -67,7 +67,7 @@ module _ (x : Site) (c : Course) (r : List ℕ) (records : List (List ℕ)) (roo
       }
 
   -- an accepted one is a single call before those of the rest.
-  singly_accepted : (rest : Run) → record_refusal x c.state room r ≡ 0 → Singly x (onward c (call_at x r)) records (room - (metered_lanes x + 1)) rest
+  singly_accepted : (rest : Run) → record_refusal x c.state room r ≡ None → Singly x (onward c (call_at x r)) records (room - (metered_lanes x + 1)) rest
       → Singly x c (r ∷ records) room (behind_tick (shown_bytes (metered_lanes x) (ticked_at x c.state r).shown) rest)
   singly_accepted rest e h =
       let shown = shown_bytes (metered_lanes x) (ticked_at x c.state r).shown in
@@ -90,9 +90,9 @@ run_singly x c (r ∷ records) room =
     let after = onward c (call_at x r) in
     let left = room - (metered_lanes x + 1) in
     let rest = subst (λ (s : State). Singly x after records left (run_from x s left records)) (state_is x c r) (run_singly x after records left) in
-    by_test (eqb (record_refusal x c.state room r) 0)
-    (λ e. rw e (singly_accepted x c r records room (run_from x (ticked_at x c.state r).state left records) (eqb-true _ _ e) rest))
-    (λ e. rw e (singly_refused x c r records room (eqb-false _ _ e)))
+    by_test (is_none (record_refusal x c.state room r))
+    (λ e. rw e (singly_accepted x c r records room (run_from x (ticked_at x c.state r).state left records) (none_is _ e) rest))
+    (λ e. rw e (singly_refused x c r records room (some_is _ e)))
 
 -- A call at a site and from a state in range is a run.
 pub call_is : (x : Site) (s : State) (bytes : List ℕ) (room : ℕ) → spoilt_site x ≡ false → state_spoilt s (shape_of x) ≡ false

@@ -1,6 +1,6 @@
 -- For those who send records in blocks: a call on two blocks laid end to end, the first of which refuses nothing, is two calls in a row, the
 -- second on the state and the rest of the output that the first left.
-use Rattle.std.specs.Prelude.{ℕ, ◌+◌, ◌≡◌, List, ◌++◌, length, take, drop}
+use Rattle.std.specs.Prelude.{ℕ, ◌+◌, ◌≡◌, List, ◌++◌, length, take, drop, None}
 use Rattle.site.specs.declared.Site.{Site}
 use Rattle.state.specs.declared.State.{State}
 use Rattle.many_ticks.specs.Many.{Run, run_of, output_of}
@@ -27,4 +27,4 @@ pub record InTwo (x : Site) (s : State) (a b out : List ℕ) : Type 0 where
 
 -- Of every two blocks that these records are.
 unfoldable pub InBlocks : Site → State → List ℕ → List ℕ → Type 0
-InBlocks x s records out = (a b : List ℕ) → records ≡ a ++ b → (first_of x s a out).refusal ≡ 0 → InTwo x s a b out
+InBlocks x s records out = (a b : List ℕ) → records ≡ a ++ b → (first_of x s a out).refusal ≡ None → InTwo x s a b out

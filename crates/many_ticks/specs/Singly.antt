@@ -1,6 +1,6 @@
 -- Document 02, A7, in its own words: "State and output equal those of single calls." "It stops at the first refusal." "The refusal rule now
 -- speaks of the refused record alone; ticks accepted before it stand."
-use Rattle.std.specs.Prelude.{ℕ, ◌-◌, ◌<◌, ◌≡◌, List, [], ◌∷◌, ◌++◌, length, get_or, take}
+use Rattle.std.specs.Prelude.{ℕ, ◌-◌, ◌<◌, ◌≡◌, List, [], ◌∷◌, ◌++◌, length, get_or, take, None}
 use Rattle.site.specs.declared.Site.{Site}
 use Rattle.site.specs.Named.{metered_lanes}
 use Rattle.tick.specs.Course.{Call, Course, answer_to, onward, course_after, accepted_ticks}
@@ -24,8 +24,8 @@ pub record Singly (x : Site) (c : Course) (records : List (List ℕ)) (room : �
   pub state : (course_after c (calls_at x (take run.accepted records))).state ≡ run.state
   -- its output is what they show.
   pub laid : shown_by x c (calls_at x (take run.accepted records)) ≡ run.laid
-  -- With 0 there is no further record;
-  pub at_end : run.refusal ≡ 0 → run.accepted ≡ length records
+  -- With no refusal there is no further record;
+  pub at_end : run.refusal ≡ None → run.accepted ≡ length records
   -- else there is one, which is refused so, in that state and in what is left of the room.
-  pub more : (run.refusal ≡ 0 → ⊥) → run.accepted < length records
-  pub refused : (run.refusal ≡ 0 → ⊥) → record_refusal x run.state (room - length run.laid) (get_or records run.accepted []) ≡ run.refusal
+  pub more : (run.refusal ≡ None → ⊥) → run.accepted < length records
+  pub refused : (run.refusal ≡ None → ⊥) → record_refusal x run.state (room - length run.laid) (get_or records run.accepted []) ≡ run.refusal

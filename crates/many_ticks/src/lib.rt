@@ -3,51 +3,35 @@
 
 mod known;
 
-ghost use Rattle.std.specs.Prelude.{◌≡◌, cond, false, ℕ, ◌+◌, ◌*◌, ◌-◌, ◌≤◌, min, length, get_or};
+ghost use Rattle.std.specs.Prelude.{◌≡◌, cond, false, ℕ, ◌+◌, ◌*◌, ◌-◌, ◌≤◌, min, length, get_or, Some, None, Ok, Err};
 ghost use Rattle.std.proofs.lemmas.List.Edits.{sets};
+ghost use Rattle.refusals.specs.declared.Refusal.TheVariants.{SmallBuffer, BadRecord};
 ghost use Rattle.site.specs.Record.{spoilt_site};
-ghost use Rattle.site.specs.Named.{timings_of, metered_lanes, shape_of};
+ghost use Rattle.site.specs.Named.{metered_lanes, shape_of};
 ghost use Rattle.state.specs.State.{state_spoilt};
 ghost use Rattle.tick.specs.Checks.{tick_refusal};
 ghost use Rattle.tick.specs.Tick.{counted_in, decided_of, accepted_tick};
 ghost use Rattle.tick.specs.Waiting.{WaitingBound};
 ghost use Rattle.tick.specs.Preemption.{PreemptionClears};
 ghost use Rattle.tick.specs.Serving.{BusServed, BusHeld};
-ghost use Rattle.many_ticks.specs.Many.{input_at, shown_bytes, record_refusal, records_at, ends_with, run_from, run_of, ran_of, output_of};
+ghost use Rattle.many_ticks.specs.Many.{input_at, shown_bytes, record_refusal, unless, records_at, ends_with, run_from, run_of, ran_of, output_of};
 ghost use Rattle.many_ticks.specs.Singly.{Singly};
 ghost use Rattle.many_ticks.specs.Blocks.{InBlocks};
 
 use group::Indications;
 use period::Periods;
+use refusals::Refusal;
 use site::Site;
 use state::State;
 use tick::{DecidedTick, Input};
-use timings::Timings;
 
-// What a call gives: the refusal, or 0 at the end; how many ticks were accepted; the state after them.
+// What a call gives: the refusal, if it came to one; how many ticks were accepted; the state after them.
+// It is no Result, since a call that ends with a refusal has accepted ticks before it.
 #[derive(Clone, Copy)]
 pub struct Ran {
-    pub refusal: u8,
+    pub refusal: Option<Refusal>,
     pub accepted: usize,
     pub state: State,
-}
-
-// A record's refusal, or 0 and its tick.
-#[derive(Clone, Copy)]
-struct Checked {
-    refusal: u8,
-    input: Input,
-}
-
-// A record that is not read.
-fn not_read(refusal: u8) -> Checked
-    ensures { result.refusal ≡ refusal }
-{
-    let row = [0u16; tick_row::LONGEST_ROW];
-    Checked {
-        refusal,
-        input: tick_row::input_of(&row, 0, 0),
-    }
 }
 
 // Lays a tick's indications over the front of out: a byte for each of n lanes, then the sign's.
@@ -55,56 +39,47 @@ fn lay(shown: Indications, n: u16, out: &mut [u8])
     requires { (n ≤ 4) × (n + 1 ≤ length out.old) × ((i : ℕ) → get_or shown.colours i 0 ≤ 3) × (shown.sign ≤ 1) }
     ensures { out.new ≡ sets out.old 0 (shown_bytes n shown) }
 {
-    let mut i: u16 = 0;
-    while i < n {
-        let k = i as usize;
-        out[k] = shown.colours[k] as u8;
-        i += 1;
+    for i in 0..n as usize {
+        out[i] = shown.colours[i] as u8;
     }
     out[n as usize] = shown.sign as u8;
 }
 
-// Which of the checks before the tick's refuses, or 0: the bytes are no record, or there is no room.
-fn early_refusal(whole: bool, small: bool) -> u8
-    ensures { result ≡ cond whole (cond small 11 0) 15 }
+// The checks before the tick's: whether the bytes are a record, and whether there is room.
+fn early_check(whole: bool, small: bool) -> Result<(), Refusal>
+    ensures { result ≡ cond whole (cond small (Err SmallBuffer) (Ok tt)) (Err BadRecord) }
 {
     if !whole {
-        return tick_record::BAD_RECORD;
+        return Err(Refusal::BadRecord);
     }
     if small {
-        return output::SMALL_BUFFER;
+        return Err(Refusal::SmallBuffer);
     }
-    0
+    Ok(())
 }
 
-// Which check refuses a record with so much room, or 0, and its tick.
-fn check_record(site: Site, t: Timings, bytes: &[u8], room: usize) -> Checked
-    requires { (spoilt_site site ≡ false) × (t ≡ timings_of site) }
-    ensures refusal { (s : State) → state_spoilt s (shape_of site) ≡ false → result.refusal ≡ record_refusal site s room bytes.now }
-    ensures input { result.refusal ≡ 0 → result.input ≡ input_at site bytes.now }
+// A record's tick, with so much room, or which check refuses it.
+fn check_record(site: Site, bytes: &[u8], room: usize) -> Result<Input, Refusal>
+    requires { spoilt_site site ≡ false }
+    ensures { (s : State) → state_spoilt s (shape_of site) ≡ false → result ≡ unless (record_refusal site s room bytes.now) (input_at site bytes.now) }
 {
-    let whole = tick_record::is_record(bytes, t.lanes, t.mainline);
-    let early = early_refusal(whole, room < t.lanes as usize + 1);
-    if early != 0 {
-        return not_read(early);
-    }
-    let input = tick_record::input_of(bytes, t.lanes, t.mainline);
-    Checked {
-        refusal: tick::input_refusal(site::shape_of(site), input),
-        input,
+    let shape = site::shape_of(site);
+    let whole = tick_record::is_record(bytes, shape);
+    early_check(whole, room < shape.lanes as usize + 1)?;
+    let input = tick_record::input_of(bytes, shape);
+    match tick::input_refusal(shape, input) {
+        Some(refusal) => Err(refusal),
+        None => Ok(input),
     }
 }
 
 // The periods of a state, the tick of an accepted record counted.
 fn count(site: Site, state: State, input: Input) -> Periods
-    requires { tick_refusal site state input ≡ 0 }
+    requires { tick_refusal site state input ≡ None }
     ensures { result ≡ counted_in site state input }
 {
     let shape = site::shape_of(site);
-    let lanes = input.lanes;
-    let main = input.main;
-    let periods = state.periods;
-    period::after_tick(periods, lanes, main, shape.lanes, shape.mainline)
+    period::after_tick(state.periods, input.lanes, input.main, shape)
 }
 
 // The tick of an accepted record, counted and decided, whose indications are laid over the front of out.
@@ -116,17 +91,14 @@ fn accept(
     decided: DecidedTick,
     out: &mut [u8],
 ) -> State
-    requires { (tick_refusal site state input ≡ 0) × (counted ≡ counted_in site state input) × (decided ≡ decided_of site input counted) × (metered_lanes site + 1 ≤ length out.old) }
+    requires { (tick_refusal site state input ≡ None) × (counted ≡ counted_in site state input) × (decided ≡ decided_of site input counted) × (metered_lanes site + 1 ≤ length out.old) }
     ensures state { result ≡ (accepted_tick site state input).state }
     ensures laid { out.new ≡ sets out.old 0 (shown_bytes (metered_lanes site) (accepted_tick site state input).shown) }
 {
     let t = site::timings_of(site);
-    let group = state.group;
-    let ticked = tick::finished(t, group, input, counted, decided);
-    let shown = ticked.shown;
-    lay(shown, t.lanes, out);
-    let after = ticked.state;
-    after
+    let ticked = tick::finished(t, state.group, input, counted, decided);
+    lay(ticked.shown, t.lanes, out);
+    ticked.state
 }
 
 // Where the record that begins here ends: behind so many bytes or, cut short, where all bytes do.
@@ -147,46 +119,48 @@ fn run_all(site: Site, first: State, records: &[u8], out: &mut [u8]) -> Ran
     ensures kept { state_spoilt result.state (shape_of site) ≡ false }
     ensures output { out.new ≡ output_of (run_from site first (length out.old) (records_at site records.now)) out.old }
 {
-    let t = site::timings_of(site);
-    let size = tick_record::size(t.lanes, t.mainline);
-    let width = t.lanes as usize + 1;
+    let shape = site::shape_of(site);
+    let size = tick_record::size(shape);
+    let width = shape.lanes as usize + 1;
     let mut state = first;
-    let mut known = known::nothing();
+    let mut known = None;
     let mut accepted: usize = 0;
     let mut from: usize = 0;
     let mut at: usize = 0;
+    // from, at and accepted go on by different steps, and the first by a shorter one at the end
     while from < records.len() {
         let end = end_of(from, size, records.len());
-        let checked = check_record(site, t, &records[from..end], out.len() - at);
-        if checked.refusal != 0 {
-            return Ran {
-                refusal: checked.refusal,
-                accepted,
-                state,
-            };
-        }
-        let input = checked.input;
+        let input = match check_record(site, &records[from..end], out.len() - at) {
+            Ok(input) => input,
+            Err(refusal) => {
+                return Ran {
+                    refusal: Some(refusal),
+                    accepted,
+                    state,
+                };
+            }
+        };
         let counted = count(site, state, input);
-        known = known::decided_now(site, input, counted, known);
-        let decided = known.decided;
-        state = accept(site, state, input, counted, decided, &mut out[at..]);
+        let now = known::decided_now(site, input, counted, known);
+        known = known::kept_after(now, counted);
+        state = accept(site, state, input, counted, now.decided, &mut out[at..]);
         from = end;
         at += width;
         accepted += 1;
     }
     Ran {
-        refusal: 0,
+        refusal: None,
         accepted,
         state,
     }
 }
 
 // The call ends before the first record.
-fn stopped(state: State, refusal: u8) -> Ran
-    ensures { result ≡ ran_of (ends_with state refusal) }
+fn stopped(state: State, refusal: Refusal) -> Ran
+    ensures { result ≡ ran_of (ends_with state (Some refusal)) }
 {
     Ran {
-        refusal,
+        refusal: Some(refusal),
         accepted: 0,
         state,
     }
@@ -200,7 +174,7 @@ pub fn run(site: Site, state: State, records: &[u8], out: &mut [u8]) -> Ran
     ensures output { out.new ≡ output_of (run_of site state records.now (length out.old)) out.old }
     ensures kept { state_spoilt state (shape_of site) ≡ false → state_spoilt result.state (shape_of site) ≡ false }
     ensures long { (length (run_of site state records.now (length out.old)).laid ≡ result.accepted * (metered_lanes site + 1)) × (result.accepted * (metered_lanes site + 1) ≤ length out.old) }
-    ensures room { length records.now ≤ length out.old → result.refusal ≡ 11 → ⊥ }
+    ensures room { length records.now ≤ length out.old → result.refusal ≡ Some SmallBuffer → ⊥ }
     ensures singly { spoilt_site site ≡ false → state_spoilt state (shape_of site) ≡ false → (shown : Indications) → Singly site (record { state = state; shown = shown }) (records_at site records.now) (length out.old) (run_of site state records.now (length out.old)) }
     ensures blocks { InBlocks site state records.now out.old }
     ensures waits { WaitingBound site }
@@ -209,10 +183,10 @@ pub fn run(site: Site, state: State, records: &[u8], out: &mut [u8]) -> Ran
     ensures holds { BusHeld site }
 {
     if site::spoilt(site) {
-        return stopped(state, site::SPOILT_SITE);
+        return stopped(state, Refusal::SpoiltSite);
     }
     if state::spoilt(state, site::shape_of(site)) {
-        return stopped(state, state::SPOILT_STATE);
+        return stopped(state, Refusal::SpoiltState);
     }
     run_all(site, state, records, out)
 }

@@ -1,49 +1,50 @@
 // What is said of a number that is not allowed, and what is wrong in the trade's words.
-ghost use Rattle.text.specs.Put.{Put};
+ghost use Rattle.text.specs.Puts.{Puts};
 ghost use Rattle.phrases.specs.Wrong.{trade_word, opening_text, range_text, allowed_text, not_allowed_text};
 
+use refusals::Refusal;
+use text::Text;
+
 // The trade word of a refusal, 1 to 17.
-fn put_trade_word(out: &mut [u8], at: usize, refusal: u8) -> usize
-    ensures { Put out.old at (trade_word refusal) result out.new }
+fn put_trade_word(out: &mut Text, refusal: Refusal)
+    ensures { Puts out.old (trade_word refusal) out.new }
 {
-    text::put_item(
-        out,
-        at,
+    out.put_item(
         b",short file,wrong count,bad timing,bad entry,bad holiday,bad level,long file,bad clock,bad sample,bad command,small buffer,no period,spoilt state,spoilt site,bad record,bad approach,too many entries",
-        refusal as usize,
-    )
+        refusal.number() as usize,
+    );
 }
 
 // How a line begins that says what is wrong.
-pub fn put_opening(out: &mut [u8], at: usize, refusal: u8) -> usize
-    ensures { Put out.old at (opening_text refusal) result out.new }
+pub fn put_opening(out: &mut Text, refusal: Refusal)
+    ensures { Puts out.old (opening_text refusal) out.new }
 {
-    let p = put_trade_word(out, at, refusal);
-    text::put_bytes(out, p, b": ")
+    put_trade_word(out, refusal);
+    out.put(b": ");
 }
 
-fn put_range(out: &mut [u8], at: usize, low: u64, high: u64) -> usize
-    ensures { Put out.old at (range_text low high) result out.new }
+fn put_range(out: &mut Text, low: u64, high: u64)
+    ensures { Puts out.old (range_text low high) out.new }
 {
-    let p = text::put_decimal(out, at, low);
+    out.put_decimal(low);
     if low == high {
-        return p;
+        return;
     }
-    let q = text::put_byte(out, p, b'-');
-    text::put_decimal(out, q, high)
+    out.put_byte(b'-');
+    out.put_decimal(high);
 }
 
-pub fn put_allowed(out: &mut [u8], at: usize, low: u64, high: u64) -> usize
-    ensures { Put out.old at (allowed_text low high) result out.new }
+pub fn put_allowed(out: &mut Text, low: u64, high: u64)
+    ensures { Puts out.old (allowed_text low high) out.new }
 {
-    let p = text::put_bytes(out, at, b", allowed ");
-    put_range(out, p, low, high)
+    out.put(b", allowed ");
+    put_range(out, low, high);
 }
 
 // A number and the range that it is not in.
-pub fn put_not_allowed(out: &mut [u8], at: usize, x: u64, low: u64, high: u64) -> usize
-    ensures { Put out.old at (not_allowed_text x low high) result out.new }
+pub fn put_not_allowed(out: &mut Text, x: u64, low: u64, high: u64)
+    ensures { Puts out.old (not_allowed_text x low high) out.new }
 {
-    let p = crate::put_blank_and_decimal(out, at, x);
-    put_allowed(out, p, low, high)
+    crate::put_blank_and_decimal(out, x);
+    put_allowed(out, low, high);
 }

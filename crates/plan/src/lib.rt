@@ -7,6 +7,7 @@ ghost use Rattle.std.specs.Prelude.{◌≡◌};
 ghost use Rattle.plan.specs.Entry.{entry_of, on_day};
 ghost use Rattle.plan.specs.InForce.{applies, takes_over, in_force_of, InForce};
 
+use numbers::Rows;
 pub use today::{DayAndEntry, day_and_entry};
 
 // One time-of-day entry.
@@ -76,20 +77,18 @@ fn takes_over(e: Entry, day: u16, minute: u16, best: u16, start: u16) -> bool
 
 // The place from 1 of the entry in force on a day type at a minute; 0 for none. It is the one of the latest start among those that
 // apply, and among equal starts the last filed.
-pub fn in_force(rows: &[u16], count: u16, day: u16, minute: u16) -> u16
-    ensures is { result ≡ in_force_of rows.now count day minute }
-    ensures latest { InForce rows.now count day minute result }
+pub fn in_force(plan: Rows, day: u16, minute: u16) -> u16
+    ensures is { result ≡ in_force_of plan.entry.numbers.now plan.entry.count day minute }
+    ensures latest { InForce plan.entry.numbers.now plan.entry.count day minute result }
 {
     let mut best: u16 = 0;
     let mut start: u16 = 0;
-    let mut i: u16 = 0;
-    while i < count {
-        let e = entry_at(rows, i);
+    for i in 0..plan.count {
+        let e = entry_at(plan.numbers, i);
         if takes_over(e, day, minute, best, start) {
             best = i + 1;
             start = e.start;
         }
-        i += 1;
     }
     best
 }

@@ -4,6 +4,8 @@ use mathlib.Core.Path.{◌≡◌, refl, ap, sym, ◌∙◌}
 use mathlib.Core.Bool.{false}
 use mathlib.Core.List.{List, [], ◌∷◌, ◌++◌}
 use native.Mathlib.Omega.{arith}
+use Rattle.std.specs.Prelude.{None}
+use Rattle.std.proofs.lemmas.Option.{none-some}
 use lib.ListN.{length, length-append}
 use lib.Seq.{sets}
 use Rattle.numbers.specs.Words.{bytes}
@@ -53,11 +55,11 @@ module _ (p : Periods) (n m : ℕ) where
       ∙ ap (sets o 0) (sym is_parts)
 
 -- A poll that no check refuses has a site that is not spoilt, and a state in range.
-pub site_sound : (x : Site) (s : State) → refusal_of x s ≡ 0 → spoilt_site x ≡ false
+pub site_sound : (x : Site) (s : State) → refusal_of x s ≡ None → spoilt_site x ≡ false
 unfolding refusal_of
-site_sound x s h = by_test (spoilt_site x) (λ a. let z = rw a at h in absurd (omega arith)) (λ a. a)
+site_sound x s h = by_test (spoilt_site x) (λ a. absurd (none-some _ (sym (rw a at h)))) (λ a. a)
 
-pub state_sound : (x : Site) (s : State) → refusal_of x s ≡ 0 → state_spoilt s (shape_of x) ≡ false
+pub state_sound : (x : Site) (s : State) → refusal_of x s ≡ None → state_spoilt s (shape_of x) ≡ false
 unfolding refusal_of
 state_sound x s h =
-    by_test (state_spoilt s (shape_of x)) (λ b. let z = rw (site_sound x s h, b) at h in absurd (omega arith)) (λ b. b)
+    by_test (state_spoilt s (shape_of x)) (λ b. absurd (none-some _ (sym (rw (site_sound x s h, b) at h)))) (λ b. b)

@@ -1,7 +1,9 @@
 -- Document 01, 'Poll record': "Serial of the last completed period in four bytes, from 1, staying at 4294967295; then count n and each
 -- lane's passages and greens begun; then count m and each mainline lane's vehicles, occupied ms and good 0 or 1. Lanes not working add
 -- nothing. Two-byte numbers as above." The serial's four bytes, highest first, are its two halves as such numbers. Lanes are counted from 0.
-use Rattle.std.specs.Prelude.{ℕ, zero, suc, ◌+◌, ◌/◌, ◌%◌, cond, List, [], ◌∷◌, ◌++◌, eqb, get_or}
+use Rattle.std.specs.Prelude.{ℕ, zero, suc, ◌+◌, ◌/◌, ◌%◌, cond, List, [], ◌∷◌, ◌++◌, eqb, get_or, Option, Some, None}
+use Rattle.refusals.specs.declared.Refusal.{Refusal}
+use Rattle.refusals.specs.declared.Refusal.TheVariants.{NoPeriod, SpoiltState, SpoiltSite}
 use Rattle.numbers.specs.Words.{bytes}
 use Rattle.site.specs.declared.Site.{Site}
 use Rattle.site.specs.Record.{spoilt_site}
@@ -34,6 +36,6 @@ abbrev pub poll_of : Site → State → List ℕ
 poll_of x s = bytes (poll_words s.periods (metered_lanes x) (mainline_lanes x))
 
 -- "A poll record checks 14, 13, 12, 11": these are the first three.
-unfoldable pub refusal_of : Site → State → ℕ
+unfoldable pub refusal_of : Site → State → Option Refusal
 refusal_of x s =
-    cond (spoilt_site x) 14 (cond (state_spoilt s (shape_of x)) 13 (cond (eqb s.periods.serial 0) 12 0))
+    cond (spoilt_site x) (Some SpoiltSite) (cond (state_spoilt s (shape_of x)) (Some SpoiltState) (cond (eqb s.periods.serial 0) (Some NoPeriod) None))

@@ -10,11 +10,10 @@ ghost use Rattle.poll.specs.Poll.{metered_row, mainline_row, rows_from, poll_wor
 
 use output::Written;
 use period::{Counts, LaneCounts, Periods};
+use refusals::Refusal;
 use site::Site;
 use state::State;
-
-// No period has been completed.
-pub const NO_PERIOD: u8 = 12;
+use timings::Shape;
 
 // 1 for a good lane, else 0.
 fn good_number(lane: LaneCounts) -> u16
@@ -23,17 +22,16 @@ fn good_number(lane: LaneCounts) -> u16
     if period::is_good(lane) { 1 } else { 0 }
 }
 
-// Writes the metered lanes' passages and greens begun over out from byte `at` on.
+// Writes the metered lanes' passages and greens begun over out from byte `at` on. These are numbers of two bytes and no text, and the
+// caller has seen that they fit.
 fn store_metered(out: &mut [u8], at: usize, c: Counts, n: u16)
     requires { (n ≤ 4) × (at + n * 4 ≤ length out.old) }
     ensures { out.new ≡ sets out.old at (bytes (rows_from (metered_row c) 0 n)) }
 {
-    let mut i: u16 = 0;
-    while i < n {
+    for i in 0..n {
         let k = i as usize;
         let row = [c.passages[k], c.greens[k]];
         numbers::store(out, at + k * 4, &row);
-        i += 1;
     }
 }
 
@@ -42,55 +40,51 @@ fn store_mainline(out: &mut [u8], at: usize, c: Counts, m: u16)
     requires { at + m * 6 ≤ length out.old }
     ensures { out.new ≡ sets out.old at (bytes (rows_from (mainline_row c) 0 m)) }
 {
-    let mut j: u16 = 0;
-    while j < m {
+    for j in 0..m {
         let lane = period::lane_counts(c, j);
         let row = [lane.vehicles, lane.occupied, good_number(lane)];
         numbers::store(out, at + (j as usize) * 6, &row);
-        j += 1;
     }
 }
 
-// Writes the record of n metered and m mainline lanes over the front of out.
-fn store_record(periods: Periods, n: u16, m: u16, out: &mut [u8])
-    requires { (n ≤ 4) × (8 + n * 4 + m * 6 ≤ length out.old) }
-    ensures { out.new ≡ sets out.old 0 (bytes (poll_words periods n m)) }
+// Writes the record at a site of this shape over the front of out.
+fn store_record(periods: Periods, shape: Shape, out: &mut [u8])
+    requires { (shape.lanes ≤ 4) × (8 + shape.lanes * 4 + shape.mainline * 6 ≤ length out.old) }
+    ensures { out.new ≡ sets out.old 0 (bytes (poll_words periods shape.lanes shape.mainline)) }
 {
-    let last = periods.last;
     let head = [
         (periods.serial / 65536) as u16,
         (periods.serial % 65536) as u16,
-        n,
+        shape.lanes,
     ];
     numbers::store(out, 0, &head);
-    store_metered(out, 6, last, n);
-    let at = 6 + (n as usize) * 4;
-    let count = [m];
-    numbers::store(out, at, &count);
-    store_mainline(out, at + 2, last, m);
+    store_metered(out, 6, periods.last, shape.lanes);
+    let at = 6 + (shape.lanes as usize) * 4;
+    numbers::store(out, at, &[shape.mainline]);
+    store_mainline(out, at + 2, periods.last, shape.mainline);
 }
 
-// How many bytes the record of n metered and m mainline lanes has.
-fn record_size(n: u16, m: u16) -> usize
-    ensures { result ≡ 8 + n * 4 + m * 6 }
+// How many bytes the record at a site of this shape has.
+fn record_size(shape: Shape) -> usize
+    ensures { result ≡ 8 + shape.lanes * 4 + shape.mainline * 6 }
 {
-    8 + (n as usize) * 4 + (m as usize) * 6
+    8 + (shape.lanes as usize) * 4 + (shape.mainline as usize) * 6
 }
 
-// Which check refuses to speak of the last completed period, or 0: 14, 13, 12.
-pub fn refusal(site: Site, state: State) -> u8
+// Which check refuses to speak of the last completed period, if one does: 14, 13, 12.
+pub fn refusal(site: Site, state: State) -> Option<Refusal>
     ensures { result ≡ refusal_of site state }
 {
     if site::spoilt(site) {
-        return site::SPOILT_SITE;
+        return Some(Refusal::SpoiltSite);
     }
     if state::spoilt(state, site::shape_of(site)) {
-        return state::SPOILT_STATE;
+        return Some(Refusal::SpoiltState);
     }
     if state.periods.serial == 0 {
-        return NO_PERIOD;
+        return Some(Refusal::NoPeriod);
     }
-    0
+    None
 }
 
 // Writes the record of the last completed period to the front of out.
@@ -98,18 +92,14 @@ pub fn poll(site: Site, state: State, out: &mut [u8]) -> Written
     ensures answer { result ≡ answer_of (refusal_of site state) (poll_of site state) out.old }
     ensures buffer { out.new ≡ buffer_of (refusal_of site state) (poll_of site state) out.old }
 {
-    let refused = refusal(site, state);
-    if refused != 0 {
-        return output::refused_write(refused);
+    if let Some(refused) = refusal(site, state) {
+        return Err(refused);
     }
     let shape = site::shape_of(site);
-    let n = shape.lanes;
-    let m = shape.mainline;
-    let size = record_size(n, m);
+    let size = record_size(shape);
     if out.len() < size {
-        return output::refused_write(output::SMALL_BUFFER);
+        return Err(Refusal::SmallBuffer);
     }
-    let periods = state.periods;
-    store_record(periods, n, m, out);
-    output::accepted_write(size)
+    store_record(state.periods, shape, out);
+    Ok(size)
 }

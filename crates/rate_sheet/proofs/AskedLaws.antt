@@ -11,8 +11,9 @@ use Rattle.wanted.specs.Decision.{command_in_force, decision_of}
 use Rattle.release.specs.Cycle.{cycle_ticks}
 use Rattle.state.specs.declared.State.{State}
 use Rattle.state.specs.State.{state_spoilt, fresh_state}
+use Rattle.std.specs.Prelude.{None}
 use Rattle.tick.specs.Checks.{input_refusal, tick_refusal}
-use Rattle.tick.specs.Tick.{power_up_of, decided_in, cycle_in, accepted_tick, tick_of}
+use Rattle.tick.specs.Tick.{power_up_of, decided_in, cycle_in, accepted_tick, tick_by, tick_of}
 use Rattle.worked_runs.proofs.Computing.{computing}
 use Rattle.rate_sheet.specs.Sheet.{ramp, asking, first_tick}
 
@@ -29,7 +30,7 @@ unfolding computing
 fresh_state_lem vehicles = refl
 
 module _ (rate : ℕ) (h : 150 ≤ rate) (l : rate ≤ 1800) where
-  sound_input : (vehicles : ℕ) → input_refusal (shape_of (ramp vehicles)) (asking rate) ≡ 0
+  sound_input : (vehicles : ℕ) → input_refusal (shape_of (ramp vehicles)) (asking rate) ≡ None
   unfolding computing
   sound_input vehicles = rw (le-leb 150 rate h, le-leb rate 1800 l)
 
@@ -38,5 +39,5 @@ module _ (rate : ℕ) (h : 150 ≤ rate) (l : rate ≤ 1800) where
   wished vehicles s = refl
 
   pub asked_cycle : (vehicles : ℕ) → 1 ≤ vehicles → vehicles ≤ 3 → (first_tick vehicles rate).cycle ≡ cycle_ticks vehicles rate
-  unfolding first_tick power_up_of tick_of tick_refusal
+  unfolding first_tick power_up_of tick_of tick_by tick_refusal
   asked_cycle vehicles least most = rw (sound_ramp vehicles least most, fresh_state_lem vehicles, sound_input vehicles) (wished vehicles _)

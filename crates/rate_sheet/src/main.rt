@@ -3,7 +3,7 @@
 #![tactic(auto)]
 
 ghost use Rattle.std.specs.Prelude.{◌≡◌, ◌≤◌};
-ghost use Rattle.text.specs.Put.{Put};
+ghost use Rattle.text.specs.Puts.{Puts};
 ghost use Rattle.release.specs.Cycle.{cycle_ticks};
 ghost use Rattle.rate_sheet.specs.Sheet.{rate_line, rate_lines, sheet_text, ramp, asking, first_tick};
 
@@ -12,6 +12,7 @@ use inputs::{Calls, Command, Mainline, Metered};
 use site::Site;
 use site_program::Asked;
 use streams::STDERR_FILENO;
+use text::Text;
 use tick::Input;
 
 const FIRST_RATE: u16 = 150;
@@ -88,48 +89,41 @@ fn cycle(vehicles: u16, rate: u16) -> u16
     ensures is { result ≡ cycle_ticks vehicles rate }
 {
     let site = ramp(vehicles);
-    let up = tick::power_up(site);
-    let state = up.state;
-    let ticked = tick::tick(site, state, asking(rate));
-    ticked.cycle
+    tick::tick(site, tick::power_up(site).state, asking(rate)).cycle
 }
 
-fn put_rate(out: &mut [u8], at: usize, rate: u16) -> usize
+fn put_rate(out: &mut Text, rate: u16)
     requires le_rate { 150 ≤ rate }
     requires rate_bound { rate ≤ 1800 }
-    ensures { Put out.old at (rate_line rate) result out.new }
+    ensures { Puts out.old (rate_line rate) out.new }
 {
-    let p = text::put_decimal(out, at, rate as u64);
-    let one = phrases::put_blank_and_seconds(out, p, cycle(1, rate));
-    let two = phrases::put_blank_and_seconds(out, one, cycle(2, rate));
-    let three = phrases::put_blank_and_seconds(out, two, cycle(3, rate));
-    text::put_byte(out, three, b'\n')
+    out.put_decimal(rate as u64);
+    phrases::put_blank_and_seconds(out, cycle(1, rate));
+    phrases::put_blank_and_seconds(out, cycle(2, rate));
+    phrases::put_blank_and_seconds(out, cycle(3, rate));
+    out.put_byte(b'\n');
 }
 
-fn put_rates(out: &mut [u8], at: usize) -> usize
-    ensures { Put out.old at rate_lines result out.new }
+fn put_rates(out: &mut Text)
+    ensures { Puts out.old rate_lines out.new }
 {
-    let mut p = at;
-    let mut rate = FIRST_RATE;
-    while rate <= LAST_RATE {
-        p = put_rate(out, p, rate);
-        rate += 1;
+    for rate in FIRST_RATE..=LAST_RATE {
+        put_rate(out, rate);
     }
-    p
 }
 
-fn put_sheet(out: &mut [u8]) -> usize
-    ensures { Put out.old 0 sheet_text result out.new }
+fn put_sheet(out: &mut Text)
+    ensures { Puts out.old sheet_text out.new }
 {
-    let p = text::put_bytes(out, 0, b"rate V1 V2 V3\n");
-    put_rates(out, p)
+    out.put(b"rate V1 V2 V3\n");
+    put_rates(out);
 }
 
-// The whole sheet, in a buffer of its length.
+// The whole sheet, in a buffer of its length: that it is filled to the end is proved of this text.
 fn fill_sheet(out: &mut [u8; SHEET])
     ensures { out.new ≡ sheet_text }
 {
-    put_sheet(out);
+    put_sheet(&mut Text::new(out));
 }
 
 fn print_sheet(rt: &impl Print) {

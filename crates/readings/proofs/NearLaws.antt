@@ -1,6 +1,9 @@
 -- The speed of a lane that is measured is near its exact value, since a state in range has timed vehicles in range.
 use Prim.Native.Nat.{ℕ, ◌<◌}
-use borrow.Author.Tests.{eqb-true, eqb-false}
+use mathlib.Core.Path.{◌≡◌, refl}
+use borrow.Author.Tests.{eqb-false}
+use Rattle.std.specs.Prelude.{Option, Some, None}
+use Rattle.refusals.specs.declared.Refusal.{Refusal}
 use lib.Dec.{eqb}
 use lib.Ieee.{eq}
 use Rattle.loops.proofs.Cases.{by_test}
@@ -18,7 +21,7 @@ use Rattle.state.specs.declared.State.{State}
 use Rattle.state.proofs.StateLaws.{state_good}
 use Rattle.poll.specs.Poll.{refusal_of}
 use Rattle.poll.proofs.PollLaws.{state_sound}
-use Rattle.readings.specs.Readings.{no_reading, lane_reading_of, readings_of, refused_readings, read_of, NearIf, MeasuredNear}
+use Rattle.readings.specs.Readings.{no_reading, lane_reading_of, readings_of, refused_readings, readings_by, read_of, NearIf, MeasuredNear}
 
 module _ (p : Periods) (n m : ℕ) (g : PeriodsGood p n m) where
   lane_near : (j : ℕ) → j < 6 → NearIf (lane_of p.last j).timed (lane_of p.last j).millis (lane_reading_of p j).reading
@@ -32,13 +35,14 @@ module _ (p : Periods) (n m : ℕ) (g : PeriodsGood p n m) where
   unfolding MeasuredNear readings_of
   all_near j h = rw (at_six (lane_reading_of p) no_reading j h) (lane_near j h)
 
-none_near : (x : Site) (s : State) (refusal : ℕ) → MeasuredNear s.periods.last (refused_readings refusal)
+none_near : (x : Site) (s : State) (refusal : Refusal) → MeasuredNear s.periods.last (refused_readings refusal)
 unfolding MeasuredNear refused_readings
 none_near x s refusal j h = rw (at_six (λ k. no_reading) no_reading j h) tt
 
 pub near : (x : Site) (s : State) → MeasuredNear s.periods.last (read_of x s)
-unfolding read_of
-near x s =
-    by_test (eqb (refusal_of x s) 0)
-    (λ e. rw e (all_near s.periods (metered_lanes x) (mainline_lanes x) (state_good s (shape_of x) (state_sound x s (eqb-true (refusal_of x s) 0 e))).periods))
-    (λ e. rw e (none_near x s (refusal_of x s)))
+unfolding read_of readings_by
+near x s = by (refusal_of x s) refl
+  where
+    by : (r : Option Refusal) → refusal_of x s ≡ r → MeasuredNear s.periods.last (readings_by r s.periods)
+    by None e = all_near s.periods (metered_lanes x) (mainline_lanes x) (state_good s (shape_of x) (state_sound x s e)).periods
+    by (Some refusal) e = none_near x s refusal

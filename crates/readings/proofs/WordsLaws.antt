@@ -1,5 +1,5 @@
 -- The reading and the speeds that follow from what is kept are those of the request's words.
-use Prim.Native.Nat.{ℕ, zero, suc, ◌+◌, ◌≤◌, ◌<◌, max}
+use Prim.Native.Nat.{ℕ, zero, suc, ◌≤◌, ◌<◌, max}
 use mathlib.Core.Path.{◌≡◌, refl, sym, ap, subst, ◌∙◌}
 use mathlib.Core.Bool.{true, false}
 use mathlib.Core.List.{List, [], ◌∷◌, ◌++◌}
@@ -25,9 +25,10 @@ use Rattle.period.proofs.RangeLaws.{at_least_one}
 use Rattle.state.specs.declared.State.{State}
 use Rattle.state.specs.State.{state_spoilt}
 use Rattle.state.proofs.StateLaws.{good_state}
+use Rattle.refusals.specs.declared.Refusal.TheVariants.{NoPeriod}
 use Rattle.poll.specs.Poll.{refusal_of}
 use Rattle.tick.specs.Course.{at_power_up}
-use Rattle.readings.specs.Readings.{no_reading, lane_reading_of, readings_of, refused_readings, read_of, lane_in}
+use Rattle.readings.specs.Readings.{no_reading, lane_reading_of, readings_of, refused_readings, readings_by, read_of, lane_in}
 use Rattle.readings.specs.SincePowerUp.{Times, no_times, times_after, vehicles_in, millis_in, longest, speed_over, NoneTimed, Reads, Speaks, Spoken, SincePowerUp}
 use Rattle.readings.proofs.TimesLaws.{newest, older, last_speed, speeds_in, AllTimed, Short, Fits, is_one_of_six, since_power_up}
 
@@ -177,16 +178,16 @@ none_read periods z = record {
 }
 
 module _ (x : Site) (ok : spoilt_site x ≡ false) (j : ℕ) (J : j < 6) (s : State) (good : state_spoilt s (shape_of x) ≡ false) (h : Times) (f : Fits j s.periods h) where
-  no_period : s.periods.serial ≡ 0 → read_of x s ≡ refused_readings 12
-  unfolding read_of refusal_of
+  no_period : s.periods.serial ≡ 0 → read_of x s ≡ refused_readings NoPeriod
+  unfolding read_of readings_by refusal_of
   no_period z = rw (ok, good, eq-eqb s.periods.serial 0 z)
 
   a_period : 1 ≤ s.periods.serial → read_of x s ≡ readings_of s.periods
-  unfolding read_of refusal_of
+  unfolding read_of readings_by refusal_of
   a_period l = rw (ok, good, ne_eqb s.periods.serial 0 (λ z. omega arith))
 
   -- Where no period has been completed, and where one has.
-  without : s.periods.serial ≡ 0 → Spoken h.completed (refused_readings 12).refusal (lane_in (refused_readings 12) j)
+  without : s.periods.serial ≡ 0 → Spoken h.completed (refused_readings NoPeriod).refusal (lane_in (refused_readings NoPeriod) j)
   unfolding refused_readings
   without z =
       let none : length h.completed ≡ 0 = zero_of (length h.completed) f.some in

@@ -1,6 +1,7 @@
 -- Document 02, A8: "A call gives each mainline lane's reading and these two speeds of the last completed period (14, 13, 12; refused, all are
 -- absent and 0)." The checks are the poll's. Lanes are counted from 0.
-use Rattle.std.specs.Prelude.{ℕ, ◌<◌, cond, eqb, get_or, replicate}
+use Rattle.std.specs.Prelude.{ℕ, ◌<◌, get_or, replicate, Option, Some, None}
+use Rattle.refusals.specs.declared.Refusal.{Refusal}
 use Rattle.loops.specs.Each.{six}
 use Rattle.site.specs.declared.Site.{Site}
 use Rattle.speed.specs.Speed.{SpeedNear}
@@ -27,14 +28,19 @@ lane_reading_of p j = record {
 }
 
 unfoldable pub readings_of : Periods → Readings
-readings_of p = record { refusal = 0; lanes = six (lane_reading_of p) }
+readings_of p = record { refusal = None; lanes = six (lane_reading_of p) }
 
 -- "Refused, all are absent and 0."
-unfoldable pub refused_readings : ℕ → Readings
-refused_readings refusal = record { refusal = refusal; lanes = replicate 6 no_reading }
+unfoldable pub refused_readings : Refusal → Readings
+refused_readings refusal = record { refusal = Some refusal; lanes = replicate 6 no_reading }
+
+-- An answer of which the checks say so.
+unfoldable pub readings_by : Option Refusal → Periods → Readings
+readings_by None p = readings_of p
+readings_by (Some refusal) p = refused_readings refusal
 
 unfoldable pub read_of : Site → State → Readings
-read_of x s = cond (eqb (refusal_of x s) 0) (readings_of s.periods) (refused_readings (refusal_of x s))
+read_of x s = readings_by (refusal_of x s) s.periods
 
 -- What an answer says of lane j.
 abbrev pub lane_in : Readings → ℕ → LaneReading

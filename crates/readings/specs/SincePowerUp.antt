@@ -1,6 +1,8 @@
 -- Document 02, A8, in its own words, over every list of ticks since power-up, refused ones included: which reading a lane has, and its two
 -- speeds. The periods are taken from the samples of the accepted ticks; nothing here goes by what a state keeps. Lanes are counted from 0.
-use Rattle.std.specs.Prelude.{ℕ, ◌+◌, ◌≤◌, ◌<◌, max, ◌≡◌, cond, false, List, [], ◌∷◌, ◌++◌, eqb, length, Float}
+use Rattle.std.specs.Prelude.{ℕ, ◌+◌, ◌≤◌, ◌<◌, max, ◌≡◌, cond, false, List, [], ◌∷◌, ◌++◌, eqb, length, Float, Option, Some, None}
+use Rattle.refusals.specs.declared.Refusal.{Refusal}
+use Rattle.refusals.specs.declared.Refusal.TheVariants.{NoPeriod}
 use Rattle.site.specs.declared.Site.{Site}
 use Rattle.site.specs.Record.{spoilt_site}
 use Rattle.site.specs.Named.{mainline_lanes}
@@ -84,9 +86,9 @@ pub record Speaks (times : List ℕ) (s : Speeds) : Type 0 where
   pub slowest : 1 ≤ vehicles_in times → s.slowest ≡ speed_of 1 (longest times)
 
 -- What the answer says of a lane, and the refusal: 12 exactly if no period has been completed; then the lane is absent, and its speeds 0.
-pub record Spoken (periods : List (List ℕ)) (refusal : ℕ) (l : LaneReading) : Type 0 where
-  pub no_period : periods ≡ [] → (refusal ≡ 12) × (l ≡ no_reading)
-  pub period : 1 ≤ length periods → refusal ≡ 0
+pub record Spoken (periods : List (List ℕ)) (refusal : Option Refusal) (l : LaneReading) : Type 0 where
+  pub no_period : periods ≡ [] → (refusal ≡ Some NoPeriod) × (l ≡ no_reading)
+  pub period : 1 ≤ length periods → refusal ≡ None
   pub reads : Reads periods l.reading
   pub speaks : (times : List ℕ) (before : List (List ℕ)) → periods ≡ times ∷ before → Speaks times l.speeds
 

@@ -7,6 +7,7 @@ ghost use Rattle.readings.specs.SincePowerUp.{SincePowerUp};
 
 use lane_speeds::{Reading, Speeds};
 use period::Periods;
+use refusals::Refusal;
 use site::Site;
 use state::State;
 
@@ -17,10 +18,11 @@ pub struct LaneReading {
     pub speeds: Speeds,
 }
 
-// The refusal, or 0, and the lanes; absent and 0 beyond the site's, and all of them where it is refused.
+// The refusal, if a check refuses, and the lanes: absent and 0 beyond the site's. It is no Result, since
+// a refused answer has its lanes too, all of them absent and 0, as `since` promises.
 #[derive(Clone, Copy)]
 pub struct Readings {
-    pub refusal: u8,
+    pub refusal: Option<Refusal>,
     pub lanes: [LaneReading; 6],
 }
 
@@ -28,12 +30,10 @@ fn lane_reading(p: Periods, j: u16) -> LaneReading
     requires { j < 6 }
     ensures { result ≡ lane_reading_of p j }
 {
-    let last = p.last;
-    let kept = p.speeds;
-    let c = period::lane_counts(last, j);
+    let c = period::lane_counts(p.last, j);
     LaneReading {
-        reading: lane_speeds::read(c.timed, c.millis, lane_speeds::earlier_at(kept, j)),
-        speeds: lane_speeds::last_at(kept, j),
+        reading: lane_speeds::read(c.timed, c.millis, lane_speeds::earlier_at(p.speeds, j)),
+        speeds: lane_speeds::last_at(p.speeds, j),
     }
 }
 
@@ -42,7 +42,7 @@ fn of_periods(p: Periods) -> Readings
     ensures { result ≡ readings_of p }
 {
     Readings {
-        refusal: 0,
+        refusal: None,
         lanes: [
             lane_reading(p, 0),
             lane_reading(p, 1),
@@ -66,13 +66,12 @@ fn no_reading() -> LaneReading
     }
 }
 
-fn refused(refusal: u8) -> Readings
+fn refused(refusal: Refusal) -> Readings
     ensures { result ≡ refused_readings refusal }
 {
-    let none = no_reading();
     Readings {
-        refusal,
-        lanes: [none, none, none, none, none, none],
+        refusal: Some(refusal),
+        lanes: [no_reading(); 6],
     }
 }
 
@@ -94,10 +93,8 @@ pub fn read(site: Site, state: State) -> Readings
     ensures near { MeasuredNear state.periods.last result }
     ensures since { SincePowerUp site state result }
 {
-    let refusal = poll::refusal(site, state);
-    if 0 < refusal {
+    if let Some(refusal) = poll::refusal(site, state) {
         return refused(refusal);
     }
-    let periods = state.periods;
-    of_periods(periods)
+    of_periods(state.periods)
 }

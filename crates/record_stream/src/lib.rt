@@ -1,37 +1,33 @@
 // What the programs that read tick records do alike: whole records from a stream in a buffer of fixed size, and the line at the end.
 #![tactic(auto)]
 
-ghost use Rattle.std.specs.Prelude.{◌≡◌, cond, ◌-◌, ◌%◌, ◌≤◌, length, take, drop};
+ghost use Rattle.std.specs.Prelude.{◌≡◌, cond, ◌-◌, ◌%◌, ◌≤◌, length, take, drop, IfSome};
 
+use refusals::Refusal;
 use std::io::Read;
 use streams::STDERR_FILENO;
+use text::Text;
 
-// How many bytes stand in the front of a buffer, whether they are the last, and whether they could not be read.
+// How many bytes stand in the front of a buffer, and whether they are the last.
 #[derive(Clone, Copy)]
 pub struct Front {
     pub count: usize,
     pub last: bool,
-    pub failed: bool,
 }
 
-// One read of the records behind the `held` bytes that are left of the one before.
-pub fn read_on(records: &mut impl Read, buffer: &mut [u8], held: usize) -> Front
+// One read of the records behind the `held` bytes that are left of the one before. A failure is reported on standard error.
+pub fn read_on(records: &mut impl Read, buffer: &mut [u8], held: usize) -> Option<Front>
     requires { held ≤ length buffer.old }
-    ensures { result.count ≤ length buffer.old }
+    ensures { IfSome result (λ front. front.count ≤ length buffer.old) }
 {
     match records.read(&mut buffer[held..]) {
-        Ok(n) => Front {
+        Ok(n) => Some(Front {
             count: held + n,
             last: n == 0,
-            failed: false,
-        },
+        }),
         Err(error) => {
             streams::fail(b"the records", error);
-            Front {
-                count: held,
-                last: true,
-                failed: true,
-            }
+            None
         }
     }
 }
@@ -53,20 +49,23 @@ pub fn move_front(buffer: &mut [u8], from: usize, to: usize)
     requires { (from ≤ to) × (to ≤ length buffer.old) }
     ensures { take (to - from) buffer.new ≡ take (to - from) (drop from buffer.old) }
 {
-    let mut i: usize = 0;
-    while i < to - from {
+    for i in 0..to - from {
         buffer[i] = buffer[from + i];
-        i += 1;
     }
 }
 
 // The line at the end: how many ticks were accepted, and what refused the next record, or 0.
-pub fn print_end(accepted: u64, refusal: u8) {
-    let mut text = io::buffer();
-    let p = text::put_bytes(&mut text, 0, b"accepted");
-    let q = phrases::put_blank_and_decimal(&mut text, p, accepted);
-    let r = text::put_bytes(&mut text, q, b" refusal");
-    let s = phrases::put_blank_and_decimal(&mut text, r, refusal as u64);
-    let end = text::put_byte(&mut text, s, b'\n');
-    site_program::write_error(STDERR_FILENO, &text, end);
+pub fn print_end(accepted: u64, refusal: Option<Refusal>) {
+    let number = match refusal {
+        Some(refusal) => refusal.number(),
+        None => 0,
+    };
+    let mut buffer = io::buffer();
+    let mut line = Text::new(&mut buffer);
+    line.put(b"accepted");
+    phrases::put_blank_and_decimal(&mut line, accepted);
+    line.put(b" refusal");
+    phrases::put_blank_and_decimal(&mut line, number as u64);
+    line.put_byte(b'\n');
+    site_program::write_error(STDERR_FILENO, &line);
 }

@@ -43,15 +43,7 @@ fn ready_at(t: Timings, cycle: u16, demand: [u16; 4], s: Lanes, k: u16) -> bool
 fn any_green(s: Lanes, n: u16) -> bool
     ensures { result ≡ any_green s n }
 {
-    let mut i: u16 = 0;
-    while i < n {
-        let lane = lanes::lane_at(s, i);
-        if lane.colour == GREEN {
-            return true;
-        }
-        i += 1;
-    }
-    false
+    (0..n).any(|i| lanes::lane_at(s, i).colour == GREEN)
 }
 
 // Whether a lane may be released at all.
@@ -75,15 +67,12 @@ fn next_lane(n: u16, k: u16) -> u16
 fn first_ready(t: Timings, cycle: u16, demand: [u16; 4], s: Lanes) -> u16
     ensures { result ≡ first_after (ready_at t cycle demand s) t.lanes s.last t.lanes }
 {
-    let n = t.lanes;
     let mut k = s.last;
-    let mut more = n;
-    while 0 < more {
-        k = next_lane(n, k);
+    for _turn in 0..t.lanes {
+        k = next_lane(t.lanes, k);
         if ready_at(t, cycle, demand, s, k) {
             return k;
         }
-        more -= 1;
     }
     0
 }

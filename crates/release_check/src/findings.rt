@@ -21,7 +21,7 @@ pub fn added(findings: Findings, found: u16) -> Findings {
     let mut f = findings;
     let k = found as usize;
     if k < 5 {
-        f.counts[k] = std::num::wrapping_add_u64(f.counts[k], 1);
+        f.counts[k] = f.counts[k].wrapping_add(1);
     }
     f.digest = test_output::digested(f.digest, found);
     f

@@ -47,20 +47,17 @@ fn search(
     offset: u16,
     f: Findings,
 ) -> Findings {
-    let mut s = standing;
-    s.offset = offset;
+    let s = Lanes { offset, ..standing };
     findings::added(f, release::released(t, cycle, demand, s))
 }
 
 // The four searches with these demands.
 fn search_ways(w: Ways, demand: [u16; 4], s: Lanes, f: Findings) -> Findings {
-    let exclusion = w.exclusion;
-    let fractional = w.fractional;
-    let before = std::num::wrapping_sub_u16(w.offset, 1);
-    let first = search(exclusion, w.cycle, demand, s, 0, f);
-    let second = search(fractional, w.cycle, demand, s, before, first);
-    let third = search(fractional, w.cycle, demand, s, w.offset, second);
-    search(fractional, w.cycle, demand, s, LONGEST, third)
+    let before = w.offset.wrapping_sub(1);
+    let first = search(w.exclusion, w.cycle, demand, s, 0, f);
+    let second = search(w.fractional, w.cycle, demand, s, before, first);
+    let third = search(w.fractional, w.cycle, demand, s, w.offset, second);
+    search(w.fractional, w.cycle, demand, s, LONGEST, third)
 }
 
 // With each set of demands.

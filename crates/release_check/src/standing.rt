@@ -66,7 +66,7 @@ fn standing(digit: u16, cycle: u16) -> Lane {
     match digit {
         0 => lane(RED, MINIMUM_RED, cycle),
         1 => lane(RED, MINIMUM_RED - 1, cycle),
-        2 => lane(RED, MINIMUM_RED, std::num::wrapping_sub_u16(cycle, 1)),
+        2 => lane(RED, MINIMUM_RED, cycle.wrapping_sub(1)),
         3 => lane(RED, LONGEST, LONGEST),
         4 => lane(YELLOW, MINIMUM_RED, cycle),
         _ => lane(GREEN, MINIMUM_RED, cycle),
@@ -102,9 +102,5 @@ pub fn offset_ticks(cycle: u16, n: u16) -> u16 {
     if n == 0 {
         return 0;
     }
-    let whole = cycle / n;
-    if cycle % n == 0 {
-        return whole;
-    }
-    std::num::wrapping_add_u16(whole, 1)
+    cycle.div_ceil(n)
 }

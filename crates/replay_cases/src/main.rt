@@ -25,14 +25,12 @@ fn place_of(text: &[u8], from: usize, byte: u8) -> usize
     requires { from ≤ length text.now }
     ensures { (from ≤ result) × (result ≤ length text.now) }
 {
-    let mut at = from;
-    while at < text.len() {
+    for at in from..text.len() {
         if text[at] == byte {
             return at;
         }
-        at += 1;
     }
-    at
+    text.len()
 }
 
 // The run of one line.
@@ -45,14 +43,8 @@ fn show_line(rt: &(impl Files + Print), line: &[u8]) {
 }
 
 fn show_all(rt: &(impl Files + Print), lines: &[u8]) {
-    let mut from: usize = 0;
-    while from < lines.len() {
-        let end = place_of(lines, from, b'\n');
-        show_line(rt, &lines[from..end]);
-        if lines.len() <= end {
-            return;
-        }
-        from = end + 1;
+    for line in lines.split(|byte| *byte == b'\n') {
+        show_line(rt, line);
     }
 }
 

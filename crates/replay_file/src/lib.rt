@@ -3,13 +3,16 @@
 
 mod ticks;
 
+use site::Misread;
 use std::io::Read;
 use std::rt::Files;
+use text::Text;
 
-fn print_refusal(rt: &impl Print, refusal: u8, place: usize) -> bool {
-    let mut text = io::buffer();
-    let n = phrases::put_refusal(&mut text, 0, refusal, place);
-    site_program::write_front(rt, &text, n)
+fn print_refusal(rt: &impl Print, misread: Misread) -> bool {
+    let mut buffer = io::buffer();
+    let mut text = Text::new(&mut buffer);
+    phrases::put_refusal(&mut text, misread.refusal, misread.place);
+    site_program::write_text(rt, &text)
 }
 
 // Replays the ticks of a file at the site of that name. A site file that is refused prints why, and
@@ -22,19 +25,15 @@ pub fn replay(
     ticks: &mut impl Read,
     errors: i32,
 ) {
-    let mut file = [0u8; site_reader::FRONT];
-    let input = file_input::read_file(rt, name, named, &mut file);
-    if input.failed {
-        return;
-    }
-    let n = input.count;
-    let read = site_reader::read(&file[..n]);
-    if read.refusal != 0 {
-        if print_refusal(rt, read.refusal, read.place) {
-            site_program::explain(errors, name, &file[..n]);
+    let mut buffer = [0u8; site_reader::FRONT];
+    if let Some(file) = file_input::read_file(rt, name, named, &mut buffer) {
+        match site_reader::read(file) {
+            Ok(site) => ticks::replay_at(rt, site, ticks, errors),
+            Err(misread) => {
+                if print_refusal(rt, misread) {
+                    site_program::explain(errors, name, file);
+                }
+            }
         }
-        return;
     }
-    let site = read.site;
-    ticks::replay_at(rt, site, ticks, errors);
 }

@@ -5,8 +5,10 @@ ghost use Rattle.replay_lines.specs.Replay.{longest_answer, run_after};
 use replay_lines::Run;
 use site::Site;
 use std::io::Read;
+use text::Text;
 
-// The run, and whether more is to be read.
+// The run, and whether more is to be read. It is no Option, since a run that has ended still tells the
+// first refused tick.
 #[derive(Clone, Copy)]
 struct Going {
     run: Run,
@@ -20,25 +22,28 @@ fn take_all(rt: &impl Print, site: Site, first: Run, bytes: &[u8], out: &mut [u8
 {
     let mut run = first;
     let mut from: usize = 0;
+    // each call takes as many bytes as it likes
     while from < bytes.len() {
         let taken = replay_lines::take(site, run, &bytes[from..], out);
         run = taken.run;
-        let n = taken.text;
-        if !site_program::write_out(rt, &out[..n]) {
+        if !site_program::write_out(rt, &out[..taken.text]) {
             return Going { run, on: false };
         }
         from += taken.bytes;
     }
-    let more = !run.ended;
-    Going { run, on: more }
+    Going {
+        run,
+        on: !run.ended,
+    }
 }
 
 // The end of the ticks; a last line may lack its newline.
 fn end_all(rt: &impl Print, site: Site, run: Run, out: &mut [u8]) -> Going
     requires { longest_answer ≤ length out.old }
 {
-    let end = replay_lines::put_last(out, 0, site, run);
-    site_program::write_out(rt, &out[..end]);
+    let mut text = Text::new(out);
+    replay_lines::put_last(&mut text, site, run);
+    site_program::write_text(rt, &text);
     Going {
         run: replay_lines::last(site, run),
         on: false,
@@ -68,41 +73,35 @@ fn read_some(
 
 // Says what is wrong with the first refused tick, where it is one of those just read.
 fn explain_first(errors: i32, site: Site, earlier: Run, run: Run) {
-    let known = earlier.refused;
-    if known.line != 0 {
+    if earlier.refused.is_some() {
         return;
     }
-    let refused = run.refused;
-    if refused.line == 0 {
-        return;
+    if let Some(refused) = run.refused {
+        let shape = site::shape_of(site);
+        let mut buffer = io::buffer();
+        let mut text = Text::new(&mut buffer);
+        tick_diagnosis::put_diagnosis(&mut text, refused.line, shape, refused.input);
+        site_program::write_error(errors, &text);
     }
-    let input = refused.input;
-    let mut text = io::buffer();
-    let n = tick_diagnosis::put_diagnosis(&mut text, 0, refused.line, site::shape_of(site), input);
-    site_program::write_error(errors, &text, n);
 }
 
 // Reads ticks until they end or a line is no tick. All answers are written before the next read.
 pub fn replay_at(rt: &impl Print, site: Site, ticks: &mut impl Read, errors: i32) {
-    let mut space = io::large_buffer();
-    let out: &mut [u8] = &mut space;
-    let mut more = io::large_buffer();
-    let bytes: &mut [u8] = &mut more;
-    let heading = tick_text::put_heading(out, 0);
+    let mut out = io::large_buffer();
+    let mut bytes = io::large_buffer();
+    let mut heading = Text::new(&mut out);
+    tick_text::put_heading(&mut heading);
     let mut going = Going {
         run: replay_lines::start(site),
-        on: site_program::write_front(rt, out, heading),
+        on: site_program::write_text(rt, &heading),
     };
     // the language wants to see that a loop ends
-    let mut left: u64 = 18446744073709551615;
-    while 0 < left {
+    for _ in 0..u64::MAX {
         if !going.on {
             return;
         }
         let run = going.run;
-        going = read_some(rt, site, run, ticks, bytes, out);
-        let read = going.run;
-        explain_first(errors, site, run, read);
-        left -= 1;
+        going = read_some(rt, site, run, ticks, &mut bytes, &mut out);
+        explain_first(errors, site, run, going.run);
     }
 }

@@ -1,11 +1,15 @@
 -- No line adds more to the output than the longest answer: no number of the machine has more than 20 digits, no poll record more than 60
 -- bytes, no line of readings more than 163.
 use Prim.Native.Nat.{ℕ, ◌+◌, ◌*◌, ◌^◌, ◌≤◌, ◌<◌}
-use mathlib.Core.Path.{◌≡◌, refl}
+use mathlib.Core.Path.{◌≡◌, refl, sym}
 use mathlib.Core.Bool.{Bool, true, false}
 use mathlib.Core.List.{List, [], ◌∷◌}
 use native.Mathlib.Omega.{arith}
-use borrow.Author.Tests.{eqb-true, leb-true}
+use borrow.Author.Tests.{leb-true}
+use Rattle.std.specs.Prelude.{Option, Some, None}
+use Rattle.std.specs.Option.{is_some}
+use Rattle.std.proofs.lemmas.Option.{none-some}
+use Rattle.refusals.specs.declared.Refusal.{Refusal}
 use lib.Dec.{eqb, leb}
 use lib.ListN.{length, length-append}
 use mir.Val.{Val}
@@ -25,14 +29,14 @@ use Rattle.tick_line.specs.declared.reading.Verdict.TheVariants.{Tick, Count, No
 use Rattle.tick_line.specs.contracts.reading.Verdict as a-verdict
 use Rattle.poll.specs.Poll.{poll_of, refusal_of}
 use Rattle.poll.proofs.PollLaws.{site_sound}
-use Rattle.readings.specs.Readings.{read_of, refused_readings}
+use Rattle.readings.specs.Readings.{readings_by, read_of, refused_readings}
 use Rattle.readings_text.specs.Line.{longest_speeds}
 use Rattle.readings_text.proofs.LengthLaws.{speeds_most}
 use Rattle.tick_text.specs.Lines.{tick_line, longest_tick, hex_text, poll_line}
 use Rattle.replay_lines.specs.NoTick.{word_text, no_number_text, above_text, empty_text, count_text, reason_text, no_tick_line}
 use Rattle.replay_lines.specs.Answer.{completes, polled_text, speeds_text, answer_text}
 use Rattle.replay_lines.specs.Replay.{longest_answer}
-use Rattle.replay_lines.proofs.PollLaws.{poll_most}
+use Rattle.replay_lines.proofs.PollLaws.{absent, poll_most}
 
 -- Why a line is no tick. The numbers of a verdict that the machine holds are numbers of the machine.
 word_most : (word : ℕ) → word < 2 ^ 64 → length (word_text word) ≤ 25
@@ -73,22 +77,23 @@ poll_line_length : (bytes : List ℕ) → length (poll_line bytes) ≡ 6 + lengt
 unfolding poll_line
 poll_line_length bytes = omega (arith, length-append (hex_text bytes) (ascii "\n"), hex_length bytes)
 
-polled_case : (x : Site) (s : State) (b : Bool) → eqb (refusal_of x s) 0 ≡ b → length (polled_text x s) ≤ 126
+polled_case : (x : Site) (s : State) (b : Bool) → is_some (refusal_of x s) ≡ b → length (polled_text x s) ≤ 126
 unfolding polled_text
-polled_case x s true e = rw e (omega (arith, poll_line_length (poll_of x s), poll_most x s (eqb-true (refusal_of x s) 0 e)))
-polled_case x s false e = rw e (omega (arith, poll_line_length []))
+polled_case x s true e = rw e (omega (arith, poll_line_length []))
+polled_case x s false e = rw e (omega (arith, poll_line_length (poll_of x s), poll_most x s (absent (refusal_of x s) e)))
 
 -- Readings that are not refused are those of a site of six mainline lanes at most.
-read_sound : (x : Site) (s : State) → (read_of x s).refusal ≡ 0 → refusal_of x s ≡ 0
-unfolding read_of refused_readings
-read_sound x s e = by_test (eqb (refusal_of x s) 0) (λ a. eqb-true (refusal_of x s) 0 a) (λ a. rw a at e)
+read_sound : (x : Site) (s : State) (r : Option Refusal) → refusal_of x s ≡ r → (readings_by r s.periods).refusal ≡ None → refusal_of x s ≡ None
+unfolding readings_by refused_readings
+read_sound x s None e n = e
+read_sound x s (Some r) e n = absurd (none-some r (sym n))
 
 speeds_case : (x : Site) (s : State) → length (speeds_text x s) ≤ longest_speeds
-unfolding speeds_text
+unfolding speeds_text read_of
 speeds_case x s =
-    by_test (eqb (read_of x s).refusal 0)
-    (λ e. rw e (speeds_most (read_of x s) (mainline_lanes x) (timings_good x (site_sound x s (read_sound x s (eqb-true (read_of x s).refusal 0 e)))).mainline_most))
+    by_test (is_some (read_of x s).refusal)
     (λ e. rw e (omega arith))
+    (λ e. rw e (speeds_most (read_of x s) (mainline_lanes x) (timings_good x (site_sound x s (read_sound x s _ refl (absent (read_of x s).refusal e)))).mainline_most))
 
 answer_case : (x : Site) (number : ℕ) (t : Ticked) (b : Bool) → completes t ≡ b → length (tick_line number (metered_lanes x) t) ≤ longest_tick
     → length (answer_text x number t) ≤ longest_answer

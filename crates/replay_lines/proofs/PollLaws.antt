@@ -4,7 +4,13 @@ use mathlib.Core.Path.{◌≡◌, refl, sym, ◌∙◌}
 use mathlib.Core.Bool.{Bool, true, false, cond, true≢false}
 use mathlib.Core.List.{List, []}
 use native.Mathlib.Omega.{arith}
-use borrow.Author.Tests.{eqb-true, eq-eqb, ne_eqb, le-ltb}
+use Rattle.std.specs.Prelude.{Option, Some, None, Result, Ok, Err}
+use Rattle.std.specs.Result.{result_unwrap_or}
+use Rattle.output.proofs.OutputLaws.{count_fits}
+use Rattle.std.specs.Option.{is_some}
+use Rattle.refusals.specs.declared.Refusal.{Refusal}
+use Rattle.loops.proofs.Cases.{by_test}
+use borrow.Author.Tests.{eqb-true, ne_eqb, le-ltb}
 use lib.Dec.{ltb, eqb}
 use lib.ListN.{length, take, drop}
 use lib.Seq.{take-append_seam}
@@ -21,25 +27,34 @@ use Rattle.state.specs.declared.State.{State}
 use Rattle.state.proofs.StateLaws.{good_state}
 use Rattle.tick.specs.declared.Input.{Input}
 use Rattle.tick.specs.Checks.{tick_refusal}
-use Rattle.tick.specs.Tick.{counted_in, accepted_tick, refused_tick, tick_of}
+use Rattle.tick.specs.Tick.{counted_in, accepted_tick, refused_tick, tick_by, tick_of}
 use Rattle.tick.proofs.TickLaws.{accepted, tick_keeps}
 use Rattle.poll.specs.Poll.{poll_of, refusal_of}
 use Rattle.poll.proofs.PollLaws.{length_poll, site_sound}
-use Rattle.readings.specs.Readings.{readings_of, read_of}
+use Rattle.readings.specs.Readings.{readings_of, readings_by, read_of}
 use Rattle.replay_lines.specs.Answer.{completes, polled_text, speeds_text, PeriodPolled}
 
-front_case : (earlier : ℕ) (text d : List ℕ) (b : Bool) → eqb earlier 0 ≡ b → (earlier ≡ 0 → length text ≤ length d)
-    → take (answer_of earlier text d).count (buffer_of earlier text d) ≡ cond (eqb earlier 0) text []
-unfolding answer_of buffer_of
-front_case earlier text d true e h = rw (e, le-ltb _ _ (h (eqb-true _ _ e))) (take-append_seam text (drop (length text) d))
-front_case earlier text d false e h = rw e
+-- What the test for a refusal tells.
+pub absent : {A : Type 0} (o : Option A) → is_some o ≡ false → o ≡ None
+absent None e = refl
+absent (Some a) e = absurd (true≢false e)
 
-pub written_front : (earlier : ℕ) (text d : List ℕ) → (earlier ≡ 0 → length text ≤ length d)
-    → take (answer_of earlier text d).count (buffer_of earlier text d) ≡ cond (eqb earlier 0) text []
-written_front earlier text d h = front_case earlier text d _ refl h
+pub written_front : (earlier : Option Refusal) (text d : List ℕ) → (earlier ≡ None → length text ≤ length d)
+    → take (result_unwrap_or (answer_of earlier text d) 0) (buffer_of earlier text d) ≡ cond (is_some earlier) [] text
+unfolding answer_of buffer_of
+written_front None text d h = rw (le-ltb _ _ (h refl)) (take-append_seam text (drop (length text) d))
+written_front (Some refusal) text d h = refl
+
+-- It lies within the buffer.
+pub written_fits : (earlier : Option Refusal) (text d : List ℕ) → result_unwrap_or (answer_of earlier text d) 0 ≤ length d
+written_fits earlier text d = fits _ refl
+  where
+    fits : (r : Result ℕ Refusal) → answer_of earlier text d ≡ r → result_unwrap_or r 0 ≤ length d
+    fits (Ok count) e = count_fits earlier text d e
+    fits (Err refusal) e = omega arith
 
 -- No poll record has more than 60 bytes.
-pub poll_most : (x : Site) (s : State) → refusal_of x s ≡ 0 → length (poll_of x s) ≤ 60
+pub poll_most : (x : Site) (s : State) → refusal_of x s ≡ None → length (poll_of x s) ≤ 60
 poll_most x s h =
     let good = timings_good x (site_sound x s h) in
     omega (arith, length_poll s.periods (metered_lanes x) (mainline_lanes x), good.lanes_most, good.mainline_most)
@@ -65,7 +80,7 @@ module _ (x : Site) (s : State) (i : Input) where
       rw r.1 (closed_case s.periods _ _ _ refl (sym r.0 ∙ z))
 
   -- An accepted tick: its site is not spoilt, and its state is in range.
-  polled_accepted : tick_refusal x s i ≡ 0 → (accepted_tick x s i).state.periods.ticks ≡ 0 → refusal_of x (accepted_tick x s i).state ≡ 0
+  polled_accepted : tick_refusal x s i ≡ None → (accepted_tick x s i).state.periods.ticks ≡ 0 → refusal_of x (accepted_tick x s i).state ≡ None
   unfolding refusal_of
   polled_accepted e z =
       let a = accepted x s i e in
@@ -73,18 +88,20 @@ module _ (x : Site) (s : State) (i : Input) where
       rw (a.site, good_state (accepted_tick x s i).state (shape_of x) (tick_keeps x s i a), ne_eqb (accepted_tick x s i).state.periods.serial 0 (λ y. omega arith))
 
   -- A tick that completes a period is an accepted one.
-  completed_case : (a b : Bool) → eqb (tick_refusal x s i) 0 ≡ a → eqb (accepted_tick x s i).state.periods.ticks 0 ≡ b → completes (tick_of x s i) ≡ true
-      → refusal_of x (tick_of x s i).state ≡ 0
-  unfolding completes tick_of accepted_tick refused_tick
-  completed_case true true ea eb h = rw ea (polled_accepted (eqb-true _ _ ea) (eqb-true _ _ eb))
-  completed_case true false ea eb h = absurd (true≢false (sym (rw (ea, eb) at h)))
-  completed_case false b ea eb h = absurd (true≢false (sym (rw (ea, ea) at h)))
+  completed_case : (r : Option Refusal) → tick_refusal x s i ≡ r → completes (tick_by x s i r) ≡ true → refusal_of x (tick_by x s i r).state ≡ None
+  unfolding completes tick_by accepted_tick refused_tick
+  completed_case None e h =
+      by_test (eqb (accepted_tick x s i).state.periods.ticks 0)
+      (λ t. polled_accepted e (eqb-true _ _ t))
+      (λ t. absurd (true≢false (sym (rw t at h))))
+  completed_case (Some r) e h = absurd (true≢false (sym h))
 
-  pub period_polled : completes (tick_of x s i) ≡ true → refusal_of x (tick_of x s i).state ≡ 0
-  period_polled h = completed_case _ _ refl refl h
+  pub period_polled : completes (tick_of x s i) ≡ true → refusal_of x (tick_of x s i).state ≡ None
+  unfolding tick_of
+  period_polled h = completed_case _ refl h
 
 pub periods_polled : (x : Site) → PeriodPolled x
-unfolding PeriodPolled polled_text speeds_text read_of readings_of
+unfolding PeriodPolled polled_text speeds_text read_of readings_by readings_of
 periods_polled x s i h =
-    let e = eq-eqb (refusal_of x (tick_of x s i).state) 0 (period_polled x s i h) in
+    let e = period_polled x s i h in
     (rw e, rw e)

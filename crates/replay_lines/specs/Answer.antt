@@ -1,5 +1,6 @@
 -- What a tick adds to a replay's output.
-use Rattle.std.specs.Prelude.{ℕ, ◌≡◌, Bool, true, cond, ◌&&◌, List, [], ◌++◌, eqb}
+use Rattle.std.specs.Prelude.{ℕ, ◌≡◌, Bool, true, cond, not, ◌&&◌, List, [], ◌++◌, eqb}
+use Rattle.std.specs.Option.{is_some}
 use Rattle.site.specs.declared.Site.{Site}
 use Rattle.site.specs.Named.{metered_lanes, mainline_lanes}
 use Rattle.state.specs.declared.State.{State}
@@ -13,14 +14,14 @@ use Rattle.tick_text.specs.Lines.{tick_line, poll_line}
 
 -- A tick completes a period if it is accepted and leaves the open period with no tick.
 unfoldable pub completes : Ticked → Bool
-completes t = eqb t.refusal 0 && eqb t.state.periods.ticks 0
+completes t = not (is_some t.refusal) && eqb t.state.periods.ticks 0
 
 -- The poll record's line, and the line of the readings; behind a completed period neither call is refused (`PeriodPolled`).
 unfoldable pub polled_text : Site → State → List ℕ
-polled_text x s = poll_line (cond (eqb (refusal_of x s) 0) (poll_of x s) [])
+polled_text x s = poll_line (cond (is_some (refusal_of x s)) [] (poll_of x s))
 
 unfoldable pub speeds_text : Site → State → List ℕ
-speeds_text x s = cond (eqb (read_of x s).refusal 0) (speeds_line (read_of x s) (mainline_lanes x)) []
+speeds_text x s = cond (is_some (read_of x s).refusal) [] (speeds_line (read_of x s) (mainline_lanes x))
 
 -- Whatever state and input a tick is given: if it completes a period, the poll's line has the record of its state, and the line behind it
 -- the readings.

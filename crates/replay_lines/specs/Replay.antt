@@ -1,9 +1,9 @@
 -- A replay: ticks as lines of text, each with its answer.
-use Rattle.std.specs.Prelude.{ℕ, Bool, true, false, cond, ◌||◌, not, List, [], ◌∷◌, ◌++◌, eqb, replicate}
+use Rattle.std.specs.Prelude.{ℕ, Bool, true, false, cond, List, [], ◌∷◌, ◌++◌, eqb, Option, Some, None}
+use Rattle.refusals.specs.declared.Refusal.{Refusal}
 use Rattle.site.specs.declared.Site.{Site}
 use Rattle.site.specs.Named.{metered_lanes, mainline_lanes}
 use Rattle.tick.specs.Tick.{power_up_of, tick_of}
-use Rattle.tick_row.specs.Row.{longest_row, input_of}
 use Rattle.tick_line.specs.declared.scan.Scan.{Scan}
 use Rattle.tick_line.specs.declared.reading.ReadLine.{ReadLine}
 use Rattle.tick_line.specs.Scan.{one_more, line_start, closed, after_byte as scanAfter}
@@ -15,13 +15,9 @@ use Rattle.replay_lines.specs.declared.run.Line.{Line}
 use Rattle.replay_lines.specs.NoTick.{no_tick_line}
 use Rattle.replay_lines.specs.Answer.{answer_text}
 
--- No tick has been refused.
-unfoldable pub no_refused : Refused
-no_refused = record { line = 0; refusal = 0; input = input_of (replicate longest_row 0) 0 0 }
-
 -- Power-up, before the first byte.
 unfoldable pub start_of : Site → Run
-start_of x = record { state = (power_up_of x).state; lines = 0; begun = false; scan = line_start; ended = false; refused = no_refused }
+start_of x = record { state = (power_up_of x).state; lines = 0; begun = false; scan = line_start; ended = false; refused = None }
 
 -- The present line, which ends here: its number from 1, what is read of it, and what the tick gives in the state that the ticks before left.
 unfoldable pub line_of : Site → Run → Line
@@ -33,14 +29,15 @@ line_of x run =
 unfoldable pub line_text : Site → Line → List ℕ
 line_text x line = cond (is_tick line.verdict) (answer_text x line.number line.ticked) (no_tick_line line.number line.verdict)
 
+-- A line's tick, if it was refused.
+abbrev pub refused_for : Option Refusal → Line → Option Refused
+refused_for None line = None
+refused_for (Some refusal) line = Some (record { line = line.number; refusal = refusal; input = line.input })
+
 -- The first refused tick is kept.
-unfoldable pub noted : Refused → Line → Refused
-noted refused line =
-    cond (eqb refused.line 0)
-    (cond (eqb line.ticked.refusal 0)
-    refused
-    (record { line = line.number; refusal = line.ticked.refusal; input = line.input }))
-    refused
+abbrev pub noted : Option Refused → Line → Option Refused
+noted (Some refused) line = Some refused
+noted None line = refused_for line.ticked.refusal line
 
 -- The state is handed on, the line is counted; a line that is no tick ends the run.
 unfoldable pub after_line : Run → Line → Run

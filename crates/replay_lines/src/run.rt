@@ -1,21 +1,24 @@
 // A run of ticks, byte by byte.
 ghost use Rattle.std.specs.Prelude.{◌≡◌, true, ◌≤◌, ◌<◌, ◌+◌, leb, length, take};
 ghost use Rattle.text.specs.Put.{Put};
+ghost use Rattle.text.specs.Puts.{Puts};
 ghost use Rattle.replay_lines.specs.Answer.{PeriodPolled};
 ghost use Rattle.replay_lines.specs.Lines.{ByLines};
-ghost use Rattle.replay_lines.specs.Replay.{longest_answer, no_refused, start_of, with_scan, line_of, line_text, noted, after_line, output_of, run_after, last_text, last_run};
+ghost use Rattle.replay_lines.specs.Replay.{longest_answer, start_of, with_scan, line_of, line_text, noted, after_line, output_of, run_after, last_text, last_run};
 
 use crate::{answer, no_tick};
+use refusals::Refusal;
 use site::Site;
 use state::State;
+use text::Text;
 use tick::{Input, Ticked};
 use tick_line::{Scan, Verdict};
 
-// The first tick that was refused: its line, 0 where there is none, the refusal and the input.
+// A tick that was refused: its line, the refusal and the input.
 #[derive(Clone, Copy)]
 pub struct Refused {
     pub line: u64,
-    pub refusal: u8,
+    pub refusal: Refusal,
     pub input: Input,
 }
 
@@ -29,7 +32,8 @@ pub struct Run {
     pub scan: Scan,
     // whether a line was no tick: nothing behind it is read
     pub ended: bool,
-    pub refused: Refused,
+    // the first tick that was refused
+    pub refused: Option<Refused>,
 }
 
 // A line that has ended: its number from 1, what was read of it, and what the tick gave.
@@ -52,47 +56,25 @@ pub struct Taken {
 // No line adds more bytes to the output.
 pub const LONGEST_ANSWER: usize = 544;
 
-fn no_refused() -> Refused
-    ensures { result ≡ no_refused }
-{
-    let row = [0u16; tick_row::LONGEST_ROW];
-    Refused {
-        line: 0,
-        refusal: 0,
-        input: tick_row::input_of(&row, 0, 0),
-    }
-}
-
 // Power-up, before the first byte. From there a replay's text is the answers to its input's lines.
 pub fn start(site: Site) -> Run
     ensures is { result ≡ start_of site }
     ensures lines { ByLines site }
 {
-    let powered = tick::power_up(site);
-    let state = powered.state;
     Run {
-        state,
+        state: tick::power_up(site).state,
         lines: 0,
         begun: false,
         scan: tick_line::line_start(),
         ended: false,
-        refused: no_refused(),
+        refused: None,
     }
 }
 
 fn with_scan(run: Run, scan: Scan, begun: bool) -> Run
     ensures { result ≡ with_scan run scan begun }
 {
-    let state = run.state;
-    let refused = run.refused;
-    Run {
-        state,
-        lines: run.lines,
-        begun,
-        scan,
-        ended: run.ended,
-        refused,
-    }
+    Run { begun, scan, ..run }
 }
 
 // The present line, which ends here.
@@ -100,48 +82,50 @@ fn line_of(site: Site, run: Run) -> Line
     ensures { result ≡ line_of site run }
 {
     let shape = site::shape_of(site);
-    let scan = run.scan;
-    let read = tick_line::read(scan, shape.lanes, shape.mainline);
-    let verdict = read.verdict;
-    let input = read.input;
-    let state = run.state;
+    let read = tick_line::read(run.scan, shape);
     Line {
         number: tick_line::one_more(run.lines),
-        verdict,
-        input,
-        ticked: tick::tick(site, state, input),
+        verdict: read.verdict,
+        input: read.input,
+        ticked: tick::tick(site, run.state, read.input),
     }
 }
 
 // What a line adds to the output.
-fn put_line(out: &mut [u8], at: usize, site: Site, line: Line) -> usize
-    ensures is { Put out.old at (line_text site line) result out.new }
+fn put_line(out: &mut Text, site: Site, line: Line)
+    ensures is { Puts out.old (line_text site line) out.new }
     ensures short { length (line_text site line) ≤ longest_answer }
 {
-    let verdict = line.verdict;
-    if tick_line::is_tick(verdict) {
-        let ticked = line.ticked;
-        return answer::put_answer(out, at, site, line.number, ticked);
+    if tick_line::is_tick(line.verdict) {
+        return answer::put_answer(out, site, line.number, line.ticked);
     }
-    no_tick::put_no_tick(out, at, line.number, verdict)
+    no_tick::put_no_tick(out, line.number, line.verdict);
+}
+
+// The same behind the text so far, which ends here: where it ends then.
+fn add_line(out: &mut [u8], end: usize, site: Site, line: Line) -> usize
+    ensures is { Put out.old end (line_text site line) result out.new }
+    ensures short { length (line_text site line) ≤ longest_answer }
+{
+    let mut text = Text { out, end };
+    put_line(&mut text, site, line);
+    text.end
 }
 
 // The first refused tick, after one more.
-fn noted(refused: Refused, line: Line) -> Refused
+fn noted(refused: Option<Refused>, line: Line) -> Option<Refused>
     ensures { result ≡ noted refused line }
 {
-    if refused.line != 0 {
+    if refused.is_some() {
         return refused;
     }
-    let ticked = line.ticked;
-    if ticked.refusal == 0 {
-        return refused;
-    }
-    let input = line.input;
-    Refused {
-        line: line.number,
-        refusal: ticked.refusal,
-        input,
+    match line.ticked.refusal {
+        Some(refusal) => Some(Refused {
+            line: line.number,
+            refusal,
+            input: line.input,
+        }),
+        None => None,
     }
 }
 
@@ -149,28 +133,22 @@ fn noted(refused: Refused, line: Line) -> Refused
 fn after_line(run: Run, line: Line) -> Run
     ensures { result ≡ after_line run line }
 {
-    let before = run.refused;
-    let verdict = line.verdict;
-    if tick_line::is_tick(verdict) {
-        let ticked = line.ticked;
-        let state = ticked.state;
+    if tick_line::is_tick(line.verdict) {
         return Run {
-            state,
+            state: line.ticked.state,
             lines: line.number,
             begun: false,
             scan: tick_line::line_start(),
             ended: false,
-            refused: noted(before, line),
+            refused: noted(run.refused, line),
         };
     }
-    let state = run.state;
     Run {
-        state,
         lines: line.number,
         begun: false,
         scan: tick_line::line_start(),
         ended: true,
-        refused: before,
+        ..run
     }
 }
 
@@ -210,6 +188,7 @@ pub fn take(site: Site, first: Run, bytes: &[u8], out: &mut [u8]) -> Taken
     let mut begun = first.begun;
     let mut end: usize = 0;
     let mut at: usize = 0;
+    // `at` is part of the answer: it stops before the newline of a line whose answer might not fit
     while at < bytes.len() {
         let b = bytes[at];
         if b != b'\n' {
@@ -227,7 +206,7 @@ pub fn take(site: Site, first: Run, bytes: &[u8], out: &mut [u8]) -> Taken
             };
         }
         let line = line_of(site, whole);
-        end = put_line(out, end, site, line);
+        end = add_line(out, end, site, line);
         run = after_line(whole, line);
         if run.ended {
             return Taken {
@@ -248,17 +227,17 @@ pub fn take(site: Site, first: Run, bytes: &[u8], out: &mut [u8]) -> Taken
 }
 
 // The end of the input: what it adds.
-pub fn put_last(out: &mut [u8], at: usize, site: Site, run: Run) -> usize
-    ensures is { Put out.old at (last_text site run) result out.new }
+pub fn put_last(out: &mut Text, site: Site, run: Run)
+    ensures is { Puts out.old (last_text site run) out.new }
     ensures short { length (last_text site run) ≤ longest_answer }
 {
     if run.ended {
-        return text::put_bytes(out, at, b"");
+        return;
     }
     if !run.begun {
-        return text::put_bytes(out, at, b"");
+        return;
     }
-    put_line(out, at, site, line_of(site, run))
+    put_line(out, site, line_of(site, run));
 }
 
 // The run behind its last line.

@@ -6,18 +6,19 @@ mod single;
 ghost use Rattle.std.specs.Prelude.{◌≡◌, ◌≤◌, length};
 
 use record_stream::Front;
+use refusals::Refusal;
 use site::Site;
 use state::State;
 use std::io::Read;
 use std::rt::Files;
 
-// The state, and how many ticks were accepted so far; the refusal, or 0; how many bytes of the output the ticks since the last read take;
+// The state, and how many ticks were accepted so far; the refusal, if there was one; how many bytes of the output the ticks since the last read take;
 // how many bytes of the next record are held; whether more is to be read, and whether nothing has failed.
 #[derive(Clone, Copy)]
 pub struct Run {
     pub state: State,
     pub accepted: u64,
-    pub refusal: u8,
+    pub refusal: Option<Refusal>,
     pub shown: usize,
     pub held: usize,
     pub on: bool,
@@ -25,16 +26,16 @@ pub struct Run {
 }
 
 // The records of some bytes, by one call.
-fn take_block(site: Site, mut run: Run, bytes: &[u8], out: &mut [u8]) -> Run {
-    let before = run.state;
-    let ran = many_ticks::run(site, before, bytes, out);
-    let after = ran.state;
+fn take_block(site: Site, run: Run, bytes: &[u8], out: &mut [u8]) -> Run {
+    let ran = many_ticks::run(site, run.state, bytes, out);
     let shape = site::shape_of(site);
-    run.state = after;
-    run.accepted = std::num::wrapping_add_u64(run.accepted, ran.accepted as u64);
-    run.refusal = ran.refusal;
-    run.shown = ran.accepted * (shape.lanes as usize + 1);
-    run
+    Run {
+        state: ran.state,
+        accepted: std::num::wrapping_add_u64(run.accepted, ran.accepted as u64),
+        refusal: ran.refusal,
+        shown: ran.accepted * (shape.lanes as usize + 1),
+        ..run
+    }
 }
 
 // The same, by one call or by one for each.
@@ -56,7 +57,7 @@ fn run_block(
 ) -> Run {
     let mut next = take(site, singly, run, bytes, out);
     next.well = site_program::write_front(rt, out, next.shown);
-    next.on = next.well & (next.refusal == 0);
+    next.on = next.well & next.refusal.is_none();
     next
 }
 
@@ -84,7 +85,7 @@ fn run_front(
     ensures { result.held ≤ length buffer.new }
 {
     let shape = site::shape_of(site);
-    let n = record_stream::taken(front, tick_record::size(shape.lanes, shape.mainline));
+    let n = record_stream::taken(front, tick_record::size(shape));
     let next = run_block(rt, site, singly, run, &buffer[..n], out);
     record_stream::move_front(buffer, n, front.count);
     holding(next, front.count - n, front.last)
@@ -96,47 +97,42 @@ fn read_some(
     records: &mut impl Read,
     site: Site,
     singly: bool,
-    mut run: Run,
+    run: Run,
     buffer: &mut [u8],
     out: &mut [u8],
 ) -> Run
     requires { run.held ≤ length buffer.old }
     ensures { result.held ≤ length buffer.new }
 {
-    let front = record_stream::read_on(records, buffer, run.held);
-    if front.failed {
-        run.on = false;
-        run.well = false;
-        return run;
+    match record_stream::read_on(records, buffer, run.held) {
+        Some(front) => run_front(rt, site, singly, run, front, buffer, out),
+        None => Run {
+            on: false,
+            well: false,
+            ..run
+        },
     }
-    run_front(rt, site, singly, run, front, buffer, out)
 }
 
 // Reads records until they end or one is refused. What all whole ones show is written before the next read.
 fn run_all(rt: &impl Print, records: &mut impl Read, site: Site, singly: bool) -> Run {
-    let mut room = io::large_buffer();
-    let out: &mut [u8] = &mut room;
-    let mut more = io::large_buffer();
-    let buffer: &mut [u8] = &mut more;
-    let powered = tick::power_up(site);
-    let state = powered.state;
+    let mut out = io::large_buffer();
+    let mut buffer = io::large_buffer();
     let mut run = Run {
-        state,
+        state: tick::power_up(site).state,
         accepted: 0,
-        refusal: 0,
+        refusal: None,
         shown: 0,
         held: 0,
         on: true,
         well: true,
     };
     // the language wants to see that a loop ends
-    let mut left: u64 = 18446744073709551615;
-    while 0 < left {
+    for _ in 0..u64::MAX {
         if !run.on {
             return run;
         }
-        run = read_some(rt, records, site, singly, run, buffer, out);
-        left -= 1;
+        run = read_some(rt, records, site, singly, run, &mut buffer, &mut out);
     }
     run
 }
@@ -150,13 +146,10 @@ pub fn simulate(
     named: bool,
     singly: bool,
 ) {
-    let read = site_input::site_of(rt, name, named, false);
-    if !read.given {
-        return;
-    }
-    let site = read.site;
-    let run = run_all(rt, records, site, singly);
-    if run.well {
-        record_stream::print_end(run.accepted, run.refusal);
+    if let Some(site) = site_input::site_of(rt, name, named, false) {
+        let run = run_all(rt, records, site, singly);
+        if run.well {
+            record_stream::print_end(run.accepted, run.refusal);
+        }
     }
 }

@@ -47,33 +47,26 @@ fn with_four(sum: u32, v: [u16; 4]) -> u32 {
 }
 
 fn with_shown(sum: u32, shown: Indications, released: u16) -> u32 {
-    let colours = shown.colours;
-    let lower = shown.lower;
-    let a = with_four(sum, colours);
-    let b = with_four(a, lower);
+    let a = with_four(sum, shown.colours);
+    let b = with_four(a, shown.lower);
     summed(b, shown.sign as u32 * 8 + released as u32)
 }
 
 fn with_bytes(sum: u32, s: &[u8]) -> u32 {
     let mut sum = sum;
-    let mut i: usize = 0;
-    while i < s.len() {
-        sum = summed(sum, s[i] as u32);
-        i += 1;
+    for byte in s {
+        sum = summed(sum, *byte as u32);
     }
     sum
 }
 
-// The checksum with a poll's refusal and record.
-fn with_record(sum: u32, refusal: u8, record: &[u8]) -> u32 {
-    with_bytes(summed(sum, refusal as u32), record)
-}
-
+// The checksum with a poll's refusal, or 0, and its record.
 fn with_poll(sum: u32, site: Site, state: State) -> u32 {
     let mut out = [0u8; 64];
-    let written = poll::poll(site, state, &mut out);
-    let n = written.count;
-    with_record(sum, written.refusal, &out[..n])
+    match poll::poll(site, state, &mut out) {
+        Ok(count) => with_bytes(summed(sum, 0), &out[..count]),
+        Err(refusal) => summed(sum, refusal.number() as u32),
+    }
 }
 
 fn no_command() -> Command {
@@ -108,46 +101,37 @@ fn input_of(tenth: u32, lanes: Metered, main: Mainline) -> Input {
 
 // The day after a tick's poll, where the tick closed a period.
 fn polled(mut day: Day, site: Site) -> Day {
-    let state = day.state;
-    let periods = state.periods;
-    if periods.ticks != 0 {
+    if day.state.periods.ticks != 0 {
         return day;
     }
-    day.sum = with_poll(day.sum, site, state);
+    day.sum = with_poll(day.sum, site, day.state);
     day.polled = one_more(day.polled);
     day
 }
 
 // The day with what a tick gave.
 fn seen(mut day: Day, ticked: Ticked) -> Day {
-    let state = ticked.state;
-    let shown = ticked.shown;
-    day.state = state;
-    if ticked.refusal == 0 {
+    day.state = ticked.state;
+    if ticked.refusal.is_none() {
         day.accepted = one_more(day.accepted);
     }
     if ticked.released != 0 {
         day.released = one_more(day.released);
     }
-    day.sum = with_shown(day.sum, shown, ticked.released);
+    day.sum = with_shown(day.sum, ticked.shown, ticked.released);
     day
 }
 
 fn one_tick(mut day: Day, site: Site, tenth: u32) -> Day {
     let drawn = random::draw(day.random);
     day.random = drawn.random;
-    let lanes = drawn.lanes;
-    let main = drawn.main;
-    let state = day.state;
-    let ticked = tick::tick(site, state, input_of(tenth, lanes, main));
+    let ticked = tick::tick(site, day.state, input_of(tenth, drawn.lanes, drawn.main));
     polled(seen(day, ticked), site)
 }
 
 fn whole_day(site: Site) -> Day {
-    let powered = tick::power_up(site);
-    let state = powered.state;
     let mut day = Day {
-        state,
+        state: tick::power_up(site).state,
         random: SEED,
         accepted: 0,
         released: 0,
@@ -186,20 +170,12 @@ fn run_samples() {
     for _ in 0..TICKS {
         let drawn = random::draw(random);
         random = drawn.random;
-        let lanes = drawn.lanes;
-        let demand = lanes.demand;
-        sum = with_four(sum, demand);
-        let passage = lanes.passage;
-        sum = with_four(sum, passage);
-        let main = drawn.main;
-        let working = main.working;
-        sum = with_six(sum, working);
-        let occupied = main.occupied;
-        sum = with_six(sum, occupied);
-        let vehicles = main.vehicles;
-        sum = with_six(sum, vehicles);
-        let time = main.time;
-        sum = with_six(sum, time);
+        sum = with_four(sum, drawn.lanes.demand);
+        sum = with_four(sum, drawn.lanes.passage);
+        sum = with_six(sum, drawn.main.working);
+        sum = with_six(sum, drawn.main.occupied);
+        sum = with_six(sum, drawn.main.vehicles);
+        sum = with_six(sum, drawn.main.time);
     }
     print_count(b"samples ", sum);
     io::write_all(STDOUT_FILENO, b"\n");
@@ -212,12 +188,11 @@ fn main(rt: HostRuntime) {
     }
     let mut file = [0u8; site_reader::FRONT];
     let n = io::read_full(STDIN_FILENO, &mut file);
-    let read = site_reader::read(&file[..n]);
-    if read.refusal != 0 {
-        test_output::print_refusal(read.refusal, read.place);
-        site_program::explain(STDERR_FILENO, b"standard input", &file[..n]);
-        return;
+    match site_reader::read(&file[..n]) {
+        Ok(site) => run(site),
+        Err(misread) => {
+            test_output::print_refusal(misread.refusal, misread.place);
+            site_program::explain(STDERR_FILENO, b"standard input", &file[..n]);
+        }
     }
-    let site = read.site;
-    run(site);
 }

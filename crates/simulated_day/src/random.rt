@@ -1,4 +1,6 @@
 // The random samples of a simulated day: the same on every run, and in docs/src/reference.
+ghost use Rattle.std.specs.Prelude.{◌≤◌};
+
 use inputs::{Mainline, Metered};
 
 // The samples of one tick, and the generator behind them.
@@ -18,85 +20,52 @@ fn chance(hit: bool) -> u16 {
     if hit { 1 } else { 0 }
 }
 
+// Four numbers to 7.
+fn four(x: u32) -> [u32; 4] {
+    [x % 8, x / 8 % 8, x / 64 % 8, x / 512 % 8]
+}
+
 // Mostly 1.
 fn demands(x: u32) -> [u16; 4] {
-    [
-        chance(x % 8 != 0),
-        chance(x / 8 % 8 != 0),
-        chance(x / 64 % 8 != 0),
-        chance(x / 512 % 8 != 0),
-    ]
+    four(x).map(|v| chance(v != 0))
 }
 
 // Mostly 0.
 fn passages(x: u32) -> [u16; 4] {
-    [
-        chance(x / 4096 % 8 == 0),
-        chance(x / 32768 % 8 == 0),
-        chance(x / 262144 % 8 == 0),
-        chance(x / 2097152 % 8 == 0),
-    ]
+    four(x / 4096).map(|v| chance(v == 0))
 }
 
-// Six numbers to 31.
-fn six(x: u32) -> [u16; 6] {
+// Six numbers to 31, each so many times.
+fn six(x: u32, times: u32) -> [u16; 6]
+    requires { times ≤ 40 }
+{
     [
-        (x % 32) as u16,
-        (x / 32 % 32) as u16,
-        (x / 1024 % 32) as u16,
-        (x / 32768 % 32) as u16,
-        (x / 1048576 % 32) as u16,
-        (x / 33554432 % 32) as u16,
+        (x % 32 * times) as u16,
+        (x / 32 % 32 * times) as u16,
+        (x / 1024 % 32 * times) as u16,
+        (x / 32768 % 32 * times) as u16,
+        (x / 1048576 % 32 * times) as u16,
+        (x / 33554432 % 32 * times) as u16,
     ]
 }
 
 // One of 2048 ticks finds a lane failing.
 fn working(x: u32) -> [u16; 6] {
-    let lane = x / 1048576;
-    [
-        chance(lane != 0),
-        chance(lane != 1),
-        chance(lane != 2),
-        chance(lane != 3),
-        chance(lane != 4),
-        chance(lane != 5),
-    ]
+    [0, 1, 2, 3, 4, 5].map(|lane| chance(x / 1048576 != lane))
 }
 
 fn vehicles(x: u32) -> [u16; 6] {
-    let v = six(x);
-    [
-        chance(v[0] < 2),
-        chance(v[1] < 2),
-        chance(v[2] < 2),
-        chance(v[3] < 2),
-        chance(v[4] < 2),
-        chance(v[5] < 2),
-    ]
+    six(x, 1).map(|v| chance(v < 2))
 }
 
 // To 93 milliseconds.
 fn occupied(x: u32) -> [u16; 6] {
-    [
-        (x % 32 * 3) as u16,
-        (x / 32 % 32 * 3) as u16,
-        (x / 1024 % 32 * 3) as u16,
-        (x / 32768 % 32 * 3) as u16,
-        (x / 1048576 % 32 * 3) as u16,
-        (x / 33554432 % 32 * 3) as u16,
-    ]
+    six(x, 3)
 }
 
 // To 1240 ms.
 fn times(x: u32) -> [u16; 6] {
-    [
-        (x % 32 * 40) as u16,
-        (x / 32 % 32 * 40) as u16,
-        (x / 1024 % 32 * 40) as u16,
-        (x / 32768 % 32 * 40) as u16,
-        (x / 1048576 % 32 * 40) as u16,
-        (x / 33554432 % 32 * 40) as u16,
-    ]
+    six(x, 40)
 }
 
 // The samples of the next tick.

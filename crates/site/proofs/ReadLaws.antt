@@ -4,50 +4,49 @@ use mathlib.Core.Path.{◌≡◌}
 use mathlib.Core.List.{List}
 use borrow.Author.Tests.{eq-eqb, ne_eqb}
 use lib.ListN.{length}
+use Rattle.std.specs.Prelude.{Ok, Err}
 use Rattle.numbers.specs.Words.{words}
 use Rattle.ranges.specs.declared.Section.TheVariants.{Timings, Entries, Holidays, Levels}
+use Rattle.refusals.specs.declared.Refusal.TheVariants.{LongFile}
+use Rattle.site.specs.declared.Misread.{Misread}
 use Rattle.site.specs.declared.Found.{Found}
 use Rattle.site.specs.Reading.{section_of, none_of, refused, filled_of, read_of}
 
-module _ (s : List ℕ) (a : Found) (ea : a ≡ section_of Timings (length s) (words s) 0) where
-  pub refused_0 : (a.refusal ≡ 0 → ⊥) → read_of s ≡ refused a.refusal a.place
+module _ (s : List ℕ) where
+  pub refused_0 : {m : Misread} → section_of Timings (length s) (words s) 0 ≡ Err m → read_of s ≡ Err m
   unfolding read_of
-  refused_0 n = rw (← ea, ne_eqb _ _ n)
+  refused_0 e = rw e
 
-  module _ (ha : a.refusal ≡ 0) (b : Found) (eb : b ≡ section_of Entries (length s) (words s) a.next) where
-    pub refused_1 : (b.refusal ≡ 0 → ⊥) → read_of s ≡ refused b.refusal b.place
+  module _ (t : Found) (et : section_of Timings (length s) (words s) 0 ≡ Ok t) where
+    pub refused_1 : {m : Misread} → section_of Entries (length s) (words s) t.next ≡ Err m → read_of s ≡ Err m
     unfolding read_of
-    refused_1 n = rw (← ea, eq-eqb _ _ ha, ← eb, ne_eqb _ _ n)
+    refused_1 e = rw (et, e)
 
-    module _ (hb : b.refusal ≡ 0) (h : Found) (eh : h ≡ section_of Holidays (length s) (words s) b.next) where
-      pub refused_2 : (h.refusal ≡ 0 → ⊥) → read_of s ≡ refused h.refusal h.place
+    module _ (e : Found) (ee : section_of Entries (length s) (words s) t.next ≡ Ok e) where
+      pub refused_2 : {m : Misread} → section_of Holidays (length s) (words s) e.next ≡ Err m → read_of s ≡ Err m
       unfolding read_of
-      refused_2 n = rw (← ea, eq-eqb _ _ ha, ← eb, eq-eqb _ _ hb, ← eh, ne_eqb _ _ n)
+      refused_2 q = rw (et, ee, q)
 
-      module _ (hh : h.refusal ≡ 0) (l : Found) (el : l ≡ section_of Levels (length s) (words s) h.next) where
-        pub refused_3 : (l.refusal ≡ 0 → ⊥) → read_of s ≡ refused l.refusal l.place
+      module _ (h : Found) (eh : section_of Holidays (length s) (words s) e.next ≡ Ok h) where
+        pub refused_3 : {m : Misread} → section_of Levels (length s) (words s) h.next ≡ Err m → read_of s ≡ Err m
         unfolding read_of
-        refused_3 n = rw (← ea, eq-eqb _ _ ha, ← eb, eq-eqb _ _ hb, ← eh, eq-eqb _ _ hh, ← el, ne_eqb _ _ n)
+        refused_3 q = rw (et, ee, eh, q)
 
-        module _ (hl : l.refusal ≡ 0) where
-          pub too_long : (l.next * 2 ≡ length s → ⊥) → read_of s ≡ refused 7 (l.next * 2)
+        module _ (l : Found) (el : section_of Levels (length s) (words s) h.next ≡ Ok l) where
+          pub too_long : (l.next * 2 ≡ length s → ⊥) → read_of s ≡ refused LongFile (l.next * 2)
           unfolding read_of
-          too_long n = rw (← ea, eq-eqb _ _ ha, ← eb, eq-eqb _ _ hb, ← eh, eq-eqb _ _ hh, ← el, eq-eqb _ _ hl, ne_eqb _ _ n)
+          too_long n = rw (et, ee, eh, el, ne_eqb _ _ n)
 
           pub whole : l.next * 2 ≡ length s
               → read_of s
-              ≡ record {
-                refusal = 0;
-                place = 0;
-                site = record {
-                  timings = filled_of Timings (words s) 0 (none_of Timings);
-                  entries = b.count;
-                  plan = filled_of Entries (words s) a.next (none_of Entries);
-                  holidays = h.count;
-                  dates = filled_of Holidays (words s) b.next (none_of Holidays);
-                  levels = l.count;
-                  tables = filled_of Levels (words s) h.next (none_of Levels);
-                };
-              }
+              ≡ Ok (record {
+                timings = filled_of Timings (words s) 0 (none_of Timings);
+                entries = e.count;
+                plan = filled_of Entries (words s) t.next (none_of Entries);
+                holidays = h.count;
+                dates = filled_of Holidays (words s) e.next (none_of Holidays);
+                levels = l.count;
+                tables = filled_of Levels (words s) h.next (none_of Levels);
+              })
           unfolding read_of
-          whole e = rw (← ea, eq-eqb _ _ ha, ← eb, eq-eqb _ _ hb, ← eh, eq-eqb _ _ hh, ← el, eq-eqb _ _ hl, eq-eqb _ _ e)
+          whole q = rw (et, ee, eh, el, eq-eqb _ _ q)

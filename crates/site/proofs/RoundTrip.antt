@@ -1,15 +1,16 @@
 -- Writing and reading undo each other. Both directions rest on one law per section, whatever stands before and behind it in the file.
 use Prim.Native.Nat.{ℕ, zero, suc, ◌+◌, ◌*◌, ◌≤◌, ◌<◌}
-use mathlib.Core.Path.{◌≡◌, refl, ap, ap₂, sym, ◌∙◌}
+use mathlib.Core.Path.{◌≡◌, refl, ap, ap₂, sym, subst, ◌∙◌}
 use mathlib.Core.Bool.{Bool, true, false, not, false≢true}
 use mathlib.Core.List.{List, [], ◌∷◌, ◌++◌, append-nil}
 use native.Mathlib.Omega.{arith}
 use native.Mathlib.Nat.{add-zero}
 use native.Mathlib.Numerals.{add-one}
-use borrow.Author.Tests.{eqb-true, eqb-false}
+use borrow.Author.Tests.{eqb-true}
 use lib.Dec.{eqb, eqb-suc-zero}
 use lib.ListN.{length, get_or, take, drop, replicate, length-append, length-drop, take-append-drop, drop_of_length-le}
 use lib.Seq.{drop-cons, drop-drop, get_or-drop, take_at, drop_at, length-take-le}
+use Rattle.std.specs.Prelude.{Result, Ok, Err, IfOk, cond}
 use Rattle.numbers.specs.Words.{words, bytes}
 use Rattle.numbers.proofs.WordLaws.{words_low, words_bytes, bytes_words}
 use Rattle.ranges.specs.declared.Section.{Section}
@@ -17,13 +18,14 @@ use Rattle.ranges.specs.declared.Section.TheVariants.{Timings, Entries, Holidays
 use Rattle.ranges.specs.Sections.{size_of, most_of, first_bad, zeros}
 use Rattle.site.specs.declared.Found.{Found}
 use Rattle.site.specs.declared.Site.{Site}
-use Rattle.site.specs.declared.ReadSite.{ReadSite}
+use Rattle.site.specs.declared.Misread.{Misread}
 use Rattle.site.specs.Record.{spoilt_of, spoilt_site}
-use Rattle.site.specs.Reading.{numbers_of, filled_of, section_of, none_of, read_of}
+use Rattle.site.specs.Reading.{refused, numbers_of, filled_of, section_of, none_of, after, read_of}
+use Rattle.refusals.specs.declared.Refusal.TheVariants.{LongFile}
 use Rattle.site.specs.Writing.{part_of, words_of, bytes_of}
 use Rattle.site.proofs.Sizes.{fits, Sized}
 use Rattle.site.proofs.SpoiltLaws.{Sound, SoundSite, sound_site, spoilt_rest}
-use Rattle.site.proofs.SectionLaws.{good, Accepted, accepted}
+use Rattle.site.proofs.SectionLaws.{good, one_found, Accepted, accepted}
 use Rattle.site.proofs.ReadLaws.{whole}
 use Rattle.site.proofs.WriteLaws.{length_file}
 
@@ -63,7 +65,7 @@ module _ (k : Section) (n : ℕ) (v : List ℕ) (ok : Sound k n v) (lv : length 
   room : q + 1 + size_of k n ≤ length ws
   room = let h = length-drop q ws in let s = size_is in let b = length-append rows rest in omega (arith, ap length behind, length-drop (q + 1) ws, ap length e)
 
-  pub section_back : (len : ℕ) → section_of k len ws q ≡ record { refusal = 0; place = 0; count = n; next = q + 1 + size_of k n }
+  pub section_back : (len : ℕ) → section_of k len ws q ≡ Ok (record { count = n; next = q + 1 + size_of k n })
   section_back len =
       good k len ws q (let r = room in omega arith) n count_is ok.allowed (size_of k n) refl room (first_bad k rows 0 (length rows))
       (ap (λ (l : List ℕ). first_bad k l 0 (length l)) (sym numbers_are)) ok.in_range
@@ -117,15 +119,11 @@ module _ (x : Site) (sized : Sized x) (ok : spoilt_site x ≡ false) where
   file_end : (q₃ + 1 + size_of Levels x.levels) * 2 ≡ length (bytes_of x)
   file_end = sym (length_file x sized ok ∙ omega arith)
 
-  abbrev given : List ℕ → List ℕ → List ℕ → List ℕ → ReadSite
-  given t e h l = record {
-    refusal = 0;
-    place = 0;
-    site = record { timings = t; entries = x.entries; plan = e; holidays = x.holidays; dates = h; levels = x.levels; tables = l };
-  }
+  abbrev given : List ℕ → List ℕ → List ℕ → List ℕ → Site
+  given t e h l = record { timings = t; entries = x.entries; plan = e; holidays = x.holidays; dates = h; levels = x.levels; tables = l }
 
   rows_given : given (filled_of Timings ws 0 (none_of Timings)) (filled_of Entries ws 18 (none_of Entries)) (filled_of Holidays ws q₂ (none_of Holidays)) (filled_of Levels ws q₃ (none_of Levels))
-      ≡ record { refusal = 0; place = 0; site = x }
+      ≡ x
   rows_given =
       rw (
         rows_back Timings 17 x.timings s.timings sized.timings ws 0 from_entries at₀,
@@ -134,19 +132,19 @@ module _ (x : Site) (sized : Sized x) (ok : spoilt_site x ≡ false) where
         rows_back Levels x.levels x.tables s.tables sized.tables ws q₃ [] at₃,
       )
 
-  pub reads_back : read_of (bytes_of x) ≡ record { refusal = 0; place = 0; site = x }
+  pub reads_back : read_of (bytes_of x) ≡ Ok x
   reads_back =
       let f : List ℕ = bytes_of x in
       let w : words f ≡ ws = words_bytes ws in
-      let back : (k : Section) (q : ℕ) (r : Found) → section_of k (length f) ws q ≡ r → r ≡ section_of k (length f) (words f) q =
-      λ k q r e. sym (ap (λ (l : List ℕ). section_of k (length f) l q) w ∙ e) in
-      whole f _ (back Timings 0 _ (section_back Timings 17 x.timings s.timings sized.timings ws 0 from_entries at₀ (length f))) refl
-      _ (back Entries 18 _ (section_back Entries x.entries x.plan s.plan sized.plan ws 18 from_holidays at₁ (length f))) refl
-      _ (back Holidays q₂ _ (section_back Holidays x.holidays x.dates s.dates sized.dates ws q₂ levels at₂ (length f))) refl
-      _ (back Levels q₃ _ (section_back Levels x.levels x.tables s.tables sized.tables ws q₃ [] at₃ (length f))) refl
+      let back : (k : Section) (q : ℕ) (r : Found) → section_of k (length f) ws q ≡ Ok r → section_of k (length f) (words f) q ≡ Ok r =
+      λ k q r e. ap (λ (l : List ℕ). section_of k (length f) l q) w ∙ e in
+      whole f _ (back Timings 0 _ (section_back Timings 17 x.timings s.timings sized.timings ws 0 from_entries at₀ (length f)))
+      _ (back Entries 18 _ (section_back Entries x.entries x.plan s.plan sized.plan ws 18 from_holidays at₁ (length f)))
+      _ (back Holidays q₂ _ (section_back Holidays x.holidays x.dates s.dates sized.dates ws q₂ levels at₂ (length f)))
+      _ (back Levels q₃ _ (section_back Levels x.levels x.tables s.tables sized.tables ws q₃ [] at₃ (length f)))
       file_end
-      ∙ ap (λ (l : List ℕ). given (filled_of Timings l 0 (none_of Timings)) (filled_of Entries l 18 (none_of Entries)) (filled_of Holidays l q₂ (none_of Holidays)) (filled_of Levels l q₃ (none_of Levels))) w
-      ∙ rows_given
+      ∙ ap (λ (l : List ℕ). Ok (given (filled_of Timings l 0 (none_of Timings)) (filled_of Entries l 18 (none_of Entries)) (filled_of Holidays l q₂ (none_of Holidays)) (filled_of Levels l q₃ (none_of Levels)))) w
+      ∙ ap Ok rows_given
 
 -- The numbers of an accepted section, with 0 after them, are written as they stood, and are not spoilt.
 module _ (k : Section) (len : ℕ) (ws : List ℕ) (q m : ℕ) (g : Accepted k len ws q) where
@@ -176,59 +174,70 @@ module _ (k : Section) (len : ℕ) (ws : List ℕ) (q m : ℕ) (g : Accepted k l
       ∙ ap (λ (l : List ℕ). not (zeros l)) (drop_at (numbers_of k ws q) _ _ numbers_long)
       ∙ ap not (zeros_all (size_of k n) m)
 
+-- A record with four sections that are not spoilt is not.
+four_sound : (x : Site) → spoilt_of Timings 17 x.timings ≡ false → spoilt_of Entries x.entries x.plan ≡ false
+    → spoilt_of Holidays x.holidays x.dates ≡ false
+    → spoilt_of Levels x.levels x.tables ≡ false
+    → spoilt_site x ≡ false
+unfolding spoilt_site
+four_sound x t e h l = rw (t, e, h, l)
+
+-- Where reading has an end, a section was accepted, and reading went on behind it.
+went_on : {A B : Type 0} (r : Result A Misread) (f : A → Result B Misread) {x : B} → after r f ≡ Ok x → (a : A) × ((r ≡ Ok a) × (f a ≡ Ok x))
+went_on (Ok a) f e = (a, (refl, e))
+went_on (Err m) f e = absurd (cc)
+
 -- What an accepted file tells.
 module _ (f : List ℕ) where
-  abbrev t : Found
-  t = section_of Timings (length f) (words f) 0
-
-  abbrev e : Found
-  e = section_of Entries (length f) (words f) t.next
-
-  abbrev h : Found
-  h = section_of Holidays (length f) (words f) e.next
-
-  abbrev l : Found
-  l = section_of Levels (length f) (words f) h.next
-
   record Whole : Type 0 where
-    first : t.refusal ≡ 0
-    second : e.refusal ≡ 0
-    third : h.refusal ≡ 0
-    fourth : l.refusal ≡ 0
+    t : Found
+    e : Found
+    h : Found
+    l : Found
+    first : section_of Timings (length f) (words f) 0 ≡ Ok t
+    second : section_of Entries (length f) (words f) t.next ≡ Ok e
+    third : section_of Holidays (length f) (words f) e.next ≡ Ok h
+    fourth : section_of Levels (length f) (words f) h.next ≡ Ok l
     end : l.next * 2 ≡ length f
 
-  cases : (a b c d r : Bool)
-      → eqb t.refusal 0 ≡ a
-      → eqb e.refusal 0 ≡ b
-      → eqb h.refusal 0 ≡ c
-      → eqb l.refusal 0 ≡ d
-      → eqb (l.next * 2) (length f) ≡ r
-      → (read_of f).refusal ≡ 0
-      → Whole
-  unfolding read_of
-  cases true true true true true ea eb ec ed er z =
-      record { first = eqb-true _ _ ea; second = eqb-true _ _ eb; third = eqb-true _ _ ec; fourth = eqb-true _ _ ed; end = eqb-true _ _ er }
-  cases true true true true false ea eb ec ed er z = let y = simp (ea, eb, ec, ed, er) at z in absurd (omega arith)
-  cases true true true false r ea eb ec ed er z = let y = simp (ea, eb, ec, ed) at z in absurd (eqb-false _ _ ed y)
-  cases true true false d r ea eb ec ed er z = let y = simp (ea, eb, ec) at z in absurd (eqb-false _ _ ec y)
-  cases true false c d r ea eb ec ed er z = let y = simp (ea, eb) at z in absurd (eqb-false _ _ eb y)
-  cases false b c d r ea eb ec ed er z = let y = simp ea at z in absurd (eqb-false _ _ ea y)
+  end_case : (l : Found) (x y : Site) (b : Bool) → eqb (l.next * 2) (length f) ≡ b → cond (eqb (l.next * 2) (length f)) (Ok x) (refused LongFile (l.next * 2)) ≡ Ok y
+      → l.next * 2 ≡ length f
+  end_case l x y true e z = eqb-true _ _ e
+  end_case l x y false e z = let w = rw e at z in absurd (cc)
 
-  module _ (z : (read_of f).refusal ≡ 0) where
-    is_whole : Whole
-    is_whole = cases _ _ _ _ _ refl refl refl refl refl z
+  is_whole : {x : Site} → read_of f ≡ Ok x → Whole
+  unfolding read_of
+  is_whole z =
+      let p = went_on _ _ z in
+      let q = went_on _ _ p.1.1 in
+      let r = went_on _ _ q.1.1 in
+      let s = went_on _ _ r.1.1 in
+      record { t = p.0; e = q.0; h = r.0; l = s.0; first = p.1.0; second = q.1.0; third = r.1.0; fourth = s.1.0; end = end_case s.0 _ _ _ refl s.1.1 }
+
+  module _ (w : Whole) where
+    abbrev t : Found
+    t = w.t
+
+    abbrev e : Found
+    e = w.e
+
+    abbrev h : Found
+    h = w.h
+
+    abbrev l : Found
+    l = w.l
 
     g₀ : Accepted Timings (length f) (words f) 0
-    g₀ = accepted Timings (length f) (words f) 0 is_whole.first
+    g₀ = accepted Timings (length f) (words f) 0 w.first
 
     g₁ : Accepted Entries (length f) (words f) t.next
-    g₁ = accepted Entries (length f) (words f) t.next is_whole.second
+    g₁ = accepted Entries (length f) (words f) t.next w.second
 
     g₂ : Accepted Holidays (length f) (words f) e.next
-    g₂ = accepted Holidays (length f) (words f) e.next is_whole.third
+    g₂ = accepted Holidays (length f) (words f) e.next w.third
 
     g₃ : Accepted Levels (length f) (words f) h.next
-    g₃ = accepted Levels (length f) (words f) h.next is_whole.fourth
+    g₃ = accepted Levels (length f) (words f) h.next w.fourth
 
     abbrev back : Site
     back = record {
@@ -241,26 +250,38 @@ module _ (f : List ℕ) where
       tables = filled_of Levels (words f) h.next (none_of Levels);
     }
 
-    is_back : read_of f ≡ record { refusal = 0; place = 0; site = back }
-    is_back = whole f t refl is_whole.first e refl is_whole.second h refl is_whole.third l refl is_whole.fourth is_whole.end
+    is_back : read_of f ≡ Ok back
+    is_back = whole f t w.first e w.second h w.third l w.fourth w.end
 
     count₀ : 17 ≡ get_or (words f) 0 0
     count₀ = sym (eqb-true _ _ g₀.allowed)
 
+    is₀ : t ≡ record { count = get_or (words f) 0 0; next = 1 + size_of Timings (get_or (words f) 0 0) }
+    is₀ = one_found _ w.first g₀.is
+
+    is₁ : e ≡ record { count = get_or (words f) t.next 0; next = t.next + 1 + size_of Entries (get_or (words f) t.next 0) }
+    is₁ = one_found _ w.second g₁.is
+
+    is₂ : h ≡ record { count = get_or (words f) e.next 0; next = e.next + 1 + size_of Holidays (get_or (words f) e.next 0) }
+    is₂ = one_found _ w.third g₂.is
+
+    is₃ : l ≡ record { count = get_or (words f) h.next 0; next = h.next + 1 + size_of Levels (get_or (words f) h.next 0) }
+    is₃ = one_found _ w.fourth g₃.is
+
     count₁ : e.count ≡ get_or (words f) t.next 0
-    count₁ = ap (λ (y : Found). y.count) g₁.is
+    count₁ = ap (λ (y : Found). y.count) is₁
 
     count₂ : h.count ≡ get_or (words f) e.next 0
-    count₂ = ap (λ (y : Found). y.count) g₂.is
+    count₂ = ap (λ (y : Found). y.count) is₂
 
     count₃ : l.count ≡ get_or (words f) h.next 0
-    count₃ = ap (λ (y : Found). y.count) g₃.is
+    count₃ = ap (λ (y : Found). y.count) is₃
 
     end_is : length (words f) * 2 ≡ length f
-    end_is = omega (arith, words_low f, g₃.whole, is_whole.end, ap (λ (y : Found). y.next) g₃.is)
+    end_is = omega (arith, words_low f, g₃.whole, w.end, ap (λ (y : Found). y.next) is₃)
 
     nothing_left : drop (h.next + 1 + size_of Levels (get_or (words f) h.next 0)) (words f) ≡ []
-    nothing_left = drop_of_length-le (words f) {i = h.next + 1 + size_of Levels (get_or (words f) h.next 0)} (omega (arith, end_is, is_whole.end, ap (λ (y : Found). y.next) g₃.is))
+    nothing_left = drop_of_length-le (words f) {i = h.next + 1 + size_of Levels (get_or (words f) h.next 0)} (omega (arith, end_is, w.end, ap (λ (y : Found). y.next) is₃))
 
     -- from a section on, the file's numbers are that section and those behind it
     from : (k : Section) (n q m : ℕ) (next : ℕ) (rest : List ℕ) → (g : Accepted k (length f) (words f) q) → n ≡ get_or (words f) q 0
@@ -274,30 +295,32 @@ module _ (f : List ℕ) where
     words_again : words_of back ≡ words f
     unfolding words_of
     words_again =
-        from Timings 17 0 (most_of Timings) t.next _ g₀ count₀ (ap (λ (y : Found). y.next) g₀.is)
-        (from Entries e.count t.next (most_of Entries) e.next _ g₁ count₁ (ap (λ (y : Found). y.next) g₁.is)
-        (from Holidays h.count e.next (most_of Holidays) h.next _ g₂ count₂ (ap (λ (y : Found). y.next) g₂.is)
+        from Timings 17 0 (most_of Timings) t.next _ g₀ count₀ (ap (λ (y : Found). y.next) is₀)
+        (from Entries e.count t.next (most_of Entries) e.next _ g₁ count₁ (ap (λ (y : Found). y.next) is₁)
+        (from Holidays h.count e.next (most_of Holidays) h.next _ g₂ count₂ (ap (λ (y : Found). y.next) is₂)
         (sym (append-nil (part_of Levels l.count back.tables))
         ∙ from Levels l.count h.next (most_of Levels) (h.next + 1 + size_of Levels (get_or (words f) h.next 0)) [] g₃ count₃ refl (sym nothing_left))))
 
     not_spoilt : spoilt_site back ≡ false
-    unfolding spoilt_site
     not_spoilt =
-        rw (
-          count₁,
-          count₂,
-          count₃,
-          ap (λ (n : ℕ). spoilt_of Timings n back.timings) count₀ ∙ unspoilt Timings (length f) (words f) 0 (most_of Timings) g₀,
-          unspoilt Entries (length f) (words f) t.next (most_of Entries) g₁,
-          unspoilt Holidays (length f) (words f) e.next (most_of Holidays) g₂,
-          unspoilt Levels (length f) (words f) h.next (most_of Levels) g₃,
-        )
+        four_sound back
+        (ap (λ (n : ℕ). spoilt_of Timings n back.timings) count₀ ∙ unspoilt Timings (length f) (words f) 0 (most_of Timings) g₀)
+        (ap (λ (n : ℕ). spoilt_of Entries n back.plan) count₁ ∙ unspoilt Entries (length f) (words f) t.next (most_of Entries) g₁)
+        (ap (λ (n : ℕ). spoilt_of Holidays n back.dates) count₂ ∙ unspoilt Holidays (length f) (words f) e.next (most_of Holidays) g₂)
+        (ap (λ (n : ℕ). spoilt_of Levels n back.tables) count₃ ∙ unspoilt Levels (length f) (words f) h.next (most_of Levels) g₃)
 
     -- The record of an accepted file is not spoilt, and its file is that file, byte for byte.
-    pub rewritten : ((i : ℕ) → get_or f i 0 < 256) → (spoilt_site (read_of f).site ≡ false) × (bytes_of (read_of f).site ≡ f)
-    rewritten b = rw is_back (not_spoilt, ap bytes words_again ∙ bytes_words f b end_is)
+    back_rewritten : ((i : ℕ) → get_or f i 0 < 256) → (spoilt_site back ≡ false) × (bytes_of back ≡ f)
+    back_rewritten b = (not_spoilt, ap bytes words_again ∙ bytes_words f b end_is)
+
+  pub rewritten : ((i : ℕ) → get_or f i 0 < 256) → (r : Result Site Misread) → r ≡ read_of f → IfOk r (λ x. (spoilt_site x ≡ false) × (bytes_of x ≡ f))
+  rewritten b (Err m) e = tt
+  rewritten b (Ok x) e =
+      let w = is_whole (sym e) in
+      let same : back w ≡ x = let i = is_back w in cc in
+      subst (λ (y : Site). (spoilt_site y ≡ false) × (bytes_of y ≡ f)) same (back_rewritten w b)
 
 -- Whatever answers as `read_of` does keeps that promise.
-pub keeps_rewritten : (f : List ℕ) → ((i : ℕ) → get_or f i 0 < 256) → (r : ReadSite) → r ≡ read_of f
-    → (r ≡ read_of f) × (r.refusal ≡ 0 → (spoilt_site r.site ≡ false) × (bytes_of r.site ≡ f))
-keeps_rewritten f b r e = (e, λ z. rw e (rewritten f (sym (ap (λ (x : ReadSite). x.refusal) e) ∙ z) b))
+pub keeps_rewritten : (f : List ℕ) → ((i : ℕ) → get_or f i 0 < 256) → (r : Result Site Misread) → r ≡ read_of f
+    → (r ≡ read_of f) × IfOk r (λ x. (spoilt_site x ≡ false) × (bytes_of x ≡ f))
+keeps_rewritten f b r e = (e, rewritten f b r e)

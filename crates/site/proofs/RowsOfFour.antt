@@ -1,7 +1,7 @@
 -- A site file from before document 02's A6 is refused, unless it has no holidays: its rows of four do not pass for rows of five.
 use Prim.Native.Nat.{ℕ, ◌+◌, ◌*◌, ◌≤◌, ◌<◌}
 use mathlib.Core.Path.{◌≡◌, refl, ap, sym, subst, ◌∙◌}
-use mathlib.Core.Bool.{true, false}
+use mathlib.Core.Bool.{true, false, false≢true}
 use mathlib.Core.List.{List}
 use native.Mathlib.Omega.{arith}
 use borrow.Author.Tests.{eqb-true, eqb-false, leb-true, leb-false, ltb-true, ltb-false, le-leb}
@@ -17,10 +17,14 @@ use Rattle.ranges.specs.Ranges.{day_or_week_range, move_range, holiday_range}
 use Rattle.ranges.specs.Sections.{range_of, may_be_unused, first_bad}
 use Rattle.ranges.proofs.RangeLaws.{within_before}
 use Rattle.site.specs.declared.Found.{Found}
-use Rattle.site.specs.declared.ReadSite.{ReadSite}
-use Rattle.site.specs.Reading.{numbers_of, refused_at, section_of, read_of}
-use Rattle.site.specs.RowsOfFour.{number_at, entries_of, holidays_at, holidays_of, levels_at, RowsOfFour, is_short_or_bad}
-use Rattle.site.proofs.SectionLaws.{no_count, no_rows, bad_number, good, Accepted, accepted}
+use Rattle.std.specs.Prelude.{Result, Ok, Err, IsOk}
+use Rattle.refusals.specs.Numbers.{number_of}
+use Rattle.refusals.specs.declared.Refusal.{Refusal}
+use Rattle.refusals.specs.declared.Refusal.TheVariants.{ShortFile, BadHoliday}
+use Rattle.site.specs.declared.Misread.{Misread}
+use Rattle.site.specs.Reading.{numbers_of, refused, section_of, read_of}
+use Rattle.site.specs.RowsOfFour.{number_at, behind, holidays_at, holidays_of, levels_at, RowsOfFour, is_short_or_bad}
+use Rattle.site.proofs.SectionLaws.{no_count, no_rows, bad_number, good, one_found, Accepted, accepted}
 use Rattle.site.proofs.ReadLaws.{refused_2, refused_3}
 
 move_most : (kind : ℕ) → (move_range kind).high ≤ 1
@@ -30,6 +34,11 @@ move_most kind = by_test (eqb kind 1) (λ e. rw e (omega arith)) (λ e. rw e (om
 day_least : (kind month : ℕ) → 1 ≤ (day_or_week_range kind month).low
 unfolding day_or_week_range
 day_least kind month = by_test (eqb kind 1) (λ e. rw e (omega arith)) (λ e. rw e (omega arith))
+
+-- What an accepted section was found to be.
+abbrev found : (r : Result Found Misread) → IsOk r → (a : Found) × (r ≡ Ok a)
+found (Ok a) h = (a, refl)
+found (Err m) h = absurd (false≢true h)
 
 module _ (f : List ℕ) (o : RowsOfFour f) where
   abbrev ws : List ℕ
@@ -42,24 +51,29 @@ module _ (f : List ℕ) (o : RowsOfFour f) where
   n = holidays_of f
 
   abbrev t : Found
-  t = section_of Timings (length f) ws 0
+  t = (found _ o.timings).0
 
-  abbrev h : Found
-  h = section_of Holidays (length f) ws q
+  timings_are : section_of Timings (length f) ws 0 ≡ Ok t
+  timings_are = (found _ o.timings).1
+
+  abbrev e : Found
+  e = (found _ o.entries).0
 
   entries_at : t.next ≡ 18
   entries_at =
-      let g : Accepted Timings (length f) ws 0 = accepted Timings (length f) ws 0 o.timings in
-      ap (λ (y : Found). y.next) g.is ∙ ap (λ (k : ℕ). 1 + k * 1) (eqb-true _ _ g.allowed)
+      let g : Accepted Timings (length f) ws 0 = accepted Timings (length f) ws 0 timings_are in
+      let is : t ≡ record { count = get_or ws 0 0; next = 1 + get_or ws 0 0 * 1 } = one_found _ timings_are g.is in
+      ap (λ (y : Found). y.next) is ∙ ap (λ (k : ℕ). 1 + k * 1) (eqb-true _ _ g.allowed)
 
-  entries_are : entries_of f ≡ section_of Entries (length f) ws t.next
-  entries_are = ap (section_of Entries (length f) ws) (sym entries_at)
+  entries_are : section_of Entries (length f) ws t.next ≡ Ok e
+  entries_are = ap (section_of Entries (length f) ws) entries_at ∙ (found _ o.entries).1
+
+  behind_entries : e.next ≡ q
+  behind_entries = ap behind (sym (found _ o.entries).1)
 
   -- Where the holidays, read in rows of five, are refused.
-  by_holidays : (number place : ℕ) → h ≡ refused_at number place → 0 < number → (read_of f).refusal ≡ number
-  by_holidays number place e p =
-      let none : h.refusal ≡ 0 → ⊥ = λ z. omega (arith, ap (λ (y : Found). y.refusal) e) in
-      ap (λ (r : ReadSite). r.refusal) (refused_2 f t refl o.timings (entries_of f) entries_are o.entries h refl none) ∙ ap (λ (y : Found). y.refusal) e
+  by_holidays : (refusal : Refusal) (place : ℕ) → section_of Holidays (length f) ws q ≡ refused refusal place → read_of f ≡ refused refusal place
+  by_holidays refusal place h = refused_2 f t timings_are e entries_are (ap (section_of Holidays (length f) ws) behind_entries ∙ h)
 
   -- Where they are accepted: a number that they then have is in its range.
   module _ (g : Accepted Holidays (length f) ws q) where
@@ -98,7 +112,7 @@ module _ (f : List ℕ) (o : RowsOfFour f) where
     levels_at_lem = omega (arith, one)
 
     -- And behind that row, with the levels' count for its fifth number, there is no level, or not the whole of one.
-    no_levels : section_of Levels (length f) ws (q + 6) ≡ refused_at 1 (length f)
+    no_levels : section_of Levels (length f) ws (q + 6) ≡ refused ShortFile (length f)
     no_levels =
         let count : levels ≤ 1 = rw levels_at_lem fifth in
         by_test (eqb levels 0)
@@ -111,24 +125,22 @@ module _ (f : List ℕ) (o : RowsOfFour f) where
         (le-leb (number_at f (q + 6)) 24 (omega (arith, table.1))) (number_at f (q + 6) * 5) refl
         (omega (arith, o.end, levels_at_lem, count, table.0)))
 
-    by_levels : (read_of f).refusal ≡ 1
+    by_levels : read_of f ≡ refused ShortFile (length f)
     by_levels =
-        let next : h.next ≡ q + 6 = ap (λ (y : Found). y.next) g.is ∙ omega (arith, one) in
-        let l : section_of Levels (length f) ws h.next ≡ refused_at 1 (length f) = ap (section_of Levels (length f) ws) next ∙ no_levels in
-        let is : (section_of Levels (length f) ws h.next).refusal ≡ 1 = ap (λ (y : Found). y.refusal) l in
-        ap (λ (r : ReadSite). r.refusal)
-        (refused_3 f t refl o.timings (entries_of f) entries_are o.entries h refl (ap (λ (y : Found). y.refusal) g.is) _ refl (λ z. omega (arith, is)))
-        ∙ is
+        let next : q + 1 + n * 5 ≡ q + 6 = omega (arith, one) in
+        refused_3 f t timings_are e entries_are _ (ap (section_of Holidays (length f) ws) behind_entries ∙ g.is)
+        (ap (section_of Levels (length f) ws) next ∙ no_levels)
 
   pub old_refused : is_short_or_bad (read_of f) ≡ true
+  unfolding number_of
   old_refused =
       let there : q < length ws = omega (arith, o.end) in
       let allowed : leb n 16 ≡ true = le-leb n 16 o.most in
       by_test (leb (q + 1 + n * 5) (length ws))
       (λ w.
       by_test (ltb (first_bad Holidays (numbers_of Holidays ws q) 0 (length (numbers_of Holidays ws q))) (n * 5))
-      (λ b. rw (by_holidays 5 _ (bad_number Holidays (length f) ws q there n refl allowed (n * 5) refl (leb-true _ _ w) _ refl (ltb-true _ _ b)) (omega arith)))
+      (λ b. rw (by_holidays BadHoliday _ (bad_number Holidays (length f) ws q there n refl allowed (n * 5) refl (leb-true _ _ w) _ refl (ltb-true _ _ b))))
       (λ b.
       let i = good Holidays (length f) ws q there n refl allowed (n * 5) refl (leb-true _ _ w) _ refl (ltb-false _ _ b) in
-      rw (by_levels (accepted Holidays (length f) ws q (ap (λ (y : Found). y.refusal) i)))))
-      (λ w. rw (by_holidays 1 _ (no_rows Holidays (length f) ws q there n refl allowed (n * 5) refl (omega (arith, leb-false (q + 1 + n * 5) (length ws) w))) (omega arith)))
+      rw (by_levels (accepted Holidays (length f) ws q i))))
+      (λ w. rw (by_holidays ShortFile _ (no_rows Holidays (length f) ws q there n refl allowed (n * 5) refl (omega (arith, leb-false (q + 1 + n * 5) (length ws) w)))))

@@ -1,10 +1,13 @@
 -- A site file from before document 02's A6, with holidays: they have rows of four numbers, and all else is as it is now. A law
 -- (`old_refused`) says that such a file is refused, and with which numbers.
-use Rattle.std.specs.Prelude.{ℕ, ◌+◌, ◌*◌, ◌≤◌, ◌<◌, ◌≡◌, Bool, ◌||◌, List, eqb, length, get_or}
+use Rattle.std.specs.Prelude.{ℕ, ◌+◌, ◌*◌, ◌≤◌, ◌<◌, ◌≡◌, Bool, false, ◌||◌, List, eqb, length, get_or, Result, Ok, Err, IsOk}
+use Rattle.refusals.specs.Numbers.{number_of}
+use Rattle.refusals.specs.declared.Refusal.TheVariants.{ShortFile, BadHoliday}
 use Rattle.numbers.specs.Words.{words}
 use Rattle.ranges.specs.declared.Section.TheVariants.{Timings, Entries, Holidays, Levels}
 use Rattle.ranges.specs.Sections.{size_of, greatest_of}
-use Rattle.site.specs.declared.ReadSite.{ReadSite}
+use Rattle.site.specs.declared.Site.{Site}
+use Rattle.site.specs.declared.Misread.{Misread}
 use Rattle.site.specs.declared.Found.{Found}
 use Rattle.site.specs.Reading.{section_of}
 
@@ -13,11 +16,15 @@ abbrev pub number_at : List ℕ → ℕ → ℕ
 number_at f i = get_or (words f) i 0
 
 -- Its plan entries, behind the timings; and behind them, where the holidays' count stands, and how many holidays there are.
-abbrev pub entries_of : List ℕ → Found
+abbrev pub entries_of : List ℕ → Result Found Misread
 entries_of f = section_of Entries (length f) (words f) (1 + size_of Timings (greatest_of Timings))
 
+abbrev pub behind : Result Found Misread → ℕ
+behind (Ok a) = a.next
+behind (Err m) = 0
+
 abbrev pub holidays_at : List ℕ → ℕ
-holidays_at f = (entries_of f).next
+holidays_at f = behind (entries_of f)
 
 abbrev pub holidays_of : List ℕ → ℕ
 holidays_of f = number_at f (holidays_at f)
@@ -30,8 +37,8 @@ abbrev pub levels_at : List ℕ → ℕ
 levels_at f = row_at f (holidays_of f)
 
 pub record RowsOfFour (f : List ℕ) : Type 0 where
-  pub timings : (section_of Timings (length f) (words f) 0).refusal ≡ 0
-  pub entries : (entries_of f).refusal ≡ 0
+  pub timings : IsOk (section_of Timings (length f) (words f) 0)
+  pub entries : IsOk (entries_of f)
   -- "Holidays, count 0-16", but not 0.
   pub some : 1 ≤ holidays_of f
   pub most : holidays_of f ≤ greatest_of Holidays
@@ -43,5 +50,6 @@ pub record RowsOfFour (f : List ℕ) : Type 0 where
   pub end : length (words f) ≡ levels_at f + 1 + size_of Levels (number_at f (levels_at f))
 
 -- Short file, or bad holiday.
-abbrev pub is_short_or_bad : ReadSite → Bool
-is_short_or_bad r = eqb r.refusal 1 || eqb r.refusal 5
+abbrev pub is_short_or_bad : Result Site Misread → Bool
+is_short_or_bad (Ok x) = false
+is_short_or_bad (Err m) = eqb (number_of m.refusal) (number_of ShortFile) || eqb (number_of m.refusal) (number_of BadHoliday)

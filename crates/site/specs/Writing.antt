@@ -1,10 +1,11 @@
 -- Document 01, 'The site file' and 'Refusals': writing a site record. "Writing checks 14, then 11."
-use Rattle.std.specs.Prelude.{ℕ, cond, List, ◌∷◌, ◌++◌, take}
+use Rattle.std.specs.Prelude.{ℕ, cond, List, ◌∷◌, ◌++◌, take, Option, Some, None, Result}
 use Rattle.numbers.specs.Words.{bytes}
 use Rattle.ranges.specs.declared.Section.{Section}
 use Rattle.ranges.specs.declared.Section.TheVariants.{Timings, Entries, Holidays, Levels}
 use Rattle.ranges.specs.Sections.{greatest_of, size_of}
-use Rattle.output.specs.declared.Written.{Written}
+use Rattle.refusals.specs.declared.Refusal.{Refusal}
+use Rattle.refusals.specs.declared.Refusal.TheVariants.{SpoiltSite}
 use Rattle.output.specs.Output.{answer_of, buffer_of}
 use Rattle.site.specs.declared.Site.{Site}
 use Rattle.site.specs.Record.{spoilt_site}
@@ -25,11 +26,11 @@ words_of x =
 abbrev pub bytes_of : Site → List ℕ
 bytes_of x = bytes (words_of x)
 
-abbrev pub refusal_of : Site → ℕ
-refusal_of x = cond (spoilt_site x) 14 0
+abbrev pub refusal_of : Site → Option Refusal
+refusal_of x = cond (spoilt_site x) (Some SpoiltSite) None
 
 -- What writing into the buffer d answers, and what d then holds.
-abbrev pub written_of : Site → List ℕ → Written
+abbrev pub written_of : Site → List ℕ → Result ℕ Refusal
 written_of x d = answer_of (refusal_of x) (bytes_of x) d
 
 abbrev pub out_of : Site → List ℕ → List ℕ

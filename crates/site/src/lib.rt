@@ -8,9 +8,11 @@ ghost use Rattle.site.specs.Record.{spoilt_of, spoilt_site};
 ghost use Rattle.site.specs.Named.{timings_of, shape_of};
 
 use ranges::Section;
+use refusals::Refusal;
 use timings::{Shape, Timings};
 
-// All of a site file. A section's rows stand one behind the other; those beyond its count are 0.
+// All of a site file. A section's rows stand one behind the other; those beyond its count are 0. Arrays with a count, and no lists: there
+// is no heap, and a record that no file could give is told by the check of a site (14).
 #[derive(Clone, Copy)]
 pub struct Site {
     // 17 timings
@@ -26,27 +28,22 @@ pub struct Site {
     pub tables: [u16; ranges::MOST_LEVEL_NUMBERS],
 }
 
-// What reading a file gives: the refusal, or 0; its place; the record, of zeros where refused.
-#[derive(Clone, Copy)]
-pub struct ReadSite {
-    pub refusal: u8,
+// Why a file is not read, and where: its length, or the offset of the offending number or byte.
+#[derive(Clone, Copy, PartialEq, Eq)]
+pub struct Misread {
+    pub refusal: Refusal,
     pub place: usize,
-    pub site: Site,
 }
 
-// What reading one section finds: its refusal and place, or its count and the number behind it.
-#[derive(Clone, Copy)]
+// A section of a file: its count, and the number behind it.
+#[derive(Clone, Copy, PartialEq, Eq)]
 pub struct Found {
-    pub refusal: u8,
-    pub place: usize,
     pub count: u16,
     pub next: usize,
 }
 
-// A site record that no file could give.
-pub const SPOILT_SITE: u8 = 14;
-
 // A site's timings by name.
+#[tactic(auto, unfolding(crate::specs::Named::timings_of))]
 pub fn timings_of(site: Site) -> Timings
     ensures { result ≡ timings_of site }
 {
@@ -107,21 +104,12 @@ pub fn spoilt_plan(plan: &[u16; ranges::MOST_ENTRY_NUMBERS], entries: u16) -> bo
 }
 
 // Whether no file could give this record.
+#[tactic(auto, unfolding(crate::specs::Record::spoilt_site))]
 pub fn spoilt(site: Site) -> bool
     ensures { result ≡ spoilt_site site }
 {
-    let timings = site.timings;
-    if spoilt_section(Section::Timings, ranges::TIMINGS, &timings) {
-        return true;
-    }
-    let plan = site.plan;
-    if spoilt_plan(&plan, site.entries) {
-        return true;
-    }
-    let dates = site.dates;
-    if spoilt_section(Section::Holidays, site.holidays, &dates) {
-        return true;
-    }
-    let tables = site.tables;
-    spoilt_section(Section::Levels, site.levels, &tables)
+    spoilt_section(Section::Timings, ranges::TIMINGS, &site.timings)
+        || spoilt_plan(&site.plan, site.entries)
+        || spoilt_section(Section::Holidays, site.holidays, &site.dates)
+        || spoilt_section(Section::Levels, site.levels, &site.tables)
 }

@@ -8,6 +8,7 @@
 use output::Written;
 use site::Site;
 use streams::STDOUT_FILENO;
+use text::Text;
 
 // What a call answered, and whether it left every byte behind what it wrote as it was.
 #[derive(Clone, Copy)]
@@ -16,77 +17,54 @@ struct Outcome {
     kept: bool,
 }
 
-// `write` into the front of a buffer, so many bytes.
-fn write_front(site: Site, buffer: &mut [u8], size: usize) -> Outcome {
+// A call that writes into the front of a buffer, so many bytes.
+fn write_front<F: Fn(&mut [u8]) -> Written>(call: F, buffer: &mut [u8], size: usize) -> Outcome
+    requires { F.IsAlwaysCallable call }
+{
     let end = test_output::front_length(buffer, size);
-    let written = site_writer::write(site, &mut buffer[..end]);
+    let written = call(&mut buffer[..end]);
     Outcome {
         written,
-        kept: test_output::untouched(buffer, written.count),
+        kept: test_output::untouched(buffer, written.unwrap_or(0)),
     }
 }
 
-fn write_to(site: Site, size: usize) -> Outcome {
-    let mut buffer = test_output::buffer();
-    write_front(site, &mut buffer, size)
+fn write_to<F: Fn(&mut [u8]) -> Written>(call: F, size: usize) -> Outcome
+    requires { F.IsAlwaysCallable call }
+{
+    write_front(call, &mut test_output::buffer(), size)
 }
 
-// `print` into the front of a buffer, so many bytes.
-fn print_front(file: &[u8], buffer: &mut [u8], size: usize) -> Outcome {
-    let end = test_output::front_length(buffer, size);
-    let written = listing::print(file, &mut buffer[..end]);
-    Outcome {
-        written,
-        kept: test_output::untouched(buffer, written.count),
-    }
-}
-
-fn print_to(file: &[u8], size: usize) -> Outcome {
-    let mut buffer = test_output::buffer();
-    print_front(file, &mut buffer, size)
-}
-
-// One byte less than what was written.
-fn short(written: Written) -> usize {
-    if written.count == 0 {
-        return 0;
-    }
-    written.count - 1
-}
-
-fn put_outcome(out: &mut [u8], at: usize, outcome: Outcome) -> usize {
-    let written = outcome.written;
-    test_output::put_written(out, at, written, outcome.kept)
+fn put_outcome(out: &mut Text, outcome: Outcome) {
+    test_output::put_written(out, outcome.written, outcome.kept);
 }
 
 fn print_line(name: &[u8], much: Outcome, just: Outcome, less: Outcome) {
-    let mut line = io::buffer();
-    let p = text::put_bytes(&mut line, 0, name);
-    let q = put_outcome(&mut line, p, much);
-    let r = put_outcome(&mut line, q, just);
-    let s = put_outcome(&mut line, r, less);
-    let end = text::put_byte(&mut line, s, b'\n');
-    test_output::print(&line, end);
+    let mut buffer = io::buffer();
+    let mut line = Text::new(&mut buffer);
+    line.put(name);
+    put_outcome(&mut line, much);
+    put_outcome(&mut line, just);
+    put_outcome(&mut line, less);
+    line.put_byte(b'\n');
+    test_output::print(&line);
 }
 
-fn print_writes(site: Site) {
-    let much = write_to(site, test_output::ROOM);
-    let written = much.written;
-    let just = write_to(site, written.count);
-    print_line(b"write", much, just, write_to(site, short(written)));
-}
-
-fn print_prints(file: &[u8]) {
-    let much = print_to(file, test_output::ROOM);
-    let written = much.written;
-    let just = print_to(file, written.count);
-    print_line(b"print", much, just, print_to(file, short(written)));
+// What a call that writes answers, in each of the three buffers.
+fn print_writes<F: Fn(&mut [u8]) -> Written>(name: &[u8], call: F)
+    requires { F.IsAlwaysCallable call }
+{
+    let much = write_to(&call, test_output::ROOM);
+    let count = much.written.unwrap_or(0);
+    let just = write_to(&call, count);
+    let less = write_to(&call, count.saturating_sub(1));
+    print_line(name, much, just, less);
 }
 
 fn print_rewritten(site: Site, file: &[u8]) {
     let mut out = test_output::buffer();
     let written = site_writer::write(site, &mut out);
-    let n = test_output::front_length(&out, written.count);
+    let n = test_output::front_length(&out, written.unwrap_or(0));
     if check::same(&out[..n], file) {
         io::write_all(STDOUT_FILENO, b"accepted and rewritten\n");
     } else {
@@ -95,41 +73,26 @@ fn print_rewritten(site: Site, file: &[u8]) {
 }
 
 fn print_diagnosis(file: &[u8]) {
-    let mut line = io::buffer();
-    let end = site_diagnosis::put_diagnosis(&mut line, 0, b"site.bin", file);
-    test_output::print(&line, end);
+    let mut buffer = io::buffer();
+    let mut text = Text::new(&mut buffer);
+    site_diagnosis::put_diagnosis(&mut text, b"site.bin", file);
+    test_output::print(&text);
 }
 
 fn answer(file: &[u8]) {
-    let read = site_reader::read(file);
-    if read.refusal != 0 {
-        test_output::print_refusal(read.refusal, read.place);
-        print_diagnosis(file);
-    } else {
-        let site = read.site;
-        print_rewritten(site, file);
-        print_writes(site);
+    match site_reader::read(file) {
+        Ok(site) => {
+            print_rewritten(site, file);
+            print_writes(b"write", |out| site_writer::write(site, out));
+        }
+        Err(misread) => {
+            test_output::print_refusal(misread.refusal, misread.place);
+            print_diagnosis(file);
+        }
     }
-    print_prints(file);
-}
-
-// Whether there was one more file.
-fn answer_next() -> bool {
-    let mut buffer = io::buffer();
-    let case = test_input::next_case(&mut buffer);
-    if case.more {
-        let n = case.count;
-        answer(&buffer[..n]);
-    }
-    case.more
+    print_writes(b"print", |out| listing::print(file, out));
 }
 
 fn main() {
-    let mut left: u32 = 65536;
-    while 0 < left {
-        if !answer_next() {
-            return;
-        }
-        left -= 1;
-    }
+    test_input::answer_all(&mut io::buffer(), answer);
 }

@@ -1,8 +1,10 @@
 -- What is wrong with a section. Its count is number q of the file's numbers ws.
-use Rattle.std.specs.Prelude.{ℕ, ◌+◌, ◌-◌, cond, List, [], ◌++◌, ltb, eqb, length, get_or}
+use Rattle.std.specs.Prelude.{ℕ, ◌+◌, ◌-◌, cond, List, [], ◌++◌, ltb, length, get_or}
 use Rattle.text.specs.Ascii.{ascii}
 use Rattle.text.specs.Decimal.{decimal}
 use Rattle.phrases.specs.Wrong.{allowed_text, not_allowed_text}
+use Rattle.refusals.specs.declared.Refusal.{Refusal}
+use Rattle.refusals.specs.declared.Refusal.TheVariants.{ShortFile, WrongCount}
 use Rattle.numbers.specs.declared.Range.{Range}
 use Rattle.ranges.specs.declared.Section.{Section}
 use Rattle.ranges.specs.Ranges.{unused}
@@ -35,7 +37,8 @@ out_of_range_text k v i =
 unfoldable pub bad_number_text : Section → List ℕ → List ℕ
 bad_number_text k v = out_of_range_text k v (first_bad k v 0 (length v))
 
--- What is wrong, by the number of the refusal: 1, 2, else 3 to 6.
-unfoldable pub wrong_text : Section → List ℕ → ℕ → ℕ → List ℕ
-wrong_text k ws q refusal =
-    cond (eqb refusal 1) (missing_text k ws q) (cond (eqb refusal 2) (count_text k (get_or ws q 0)) (bad_number_text k (numbers_of k ws q)))
+-- What is wrong, by the refusal: 1, 2, else 3 to 6.
+unfoldable pub wrong_text : Section → List ℕ → ℕ → Refusal → List ℕ
+wrong_text k ws q ShortFile = missing_text k ws q
+wrong_text k ws q WrongCount = count_text k (get_or ws q 0)
+wrong_text k ws q refusal = bad_number_text k (numbers_of k ws q)

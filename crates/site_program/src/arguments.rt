@@ -15,30 +15,28 @@ pub enum Asked {
     TooMany,
 }
 
+#[tactic(auto, using(crate::proofs::SameLaws::differ), unfolding(crate::specs::Arguments::asked_by_one))]
 fn asked_by_one(argument: &[u8]) -> Asked
     ensures { result ≡ asked_by_one argument.now }
 {
     if check::same(argument, b"--help") {
         return Asked::Help;
     }
-    if argument.len() == 0 {
-        return Asked::NoName;
+    match argument {
+        [] => Asked::NoName,
+        [b'-', ..] => Asked::NoOption,
+        _ => Asked::Named,
     }
-    if argument[0] == b'-' {
-        return Asked::NoOption;
-    }
-    Asked::Named
 }
 
 // Of so many arguments, the first of which is given.
+#[tactic(auto, unfolding(crate::specs::Arguments::asked_by))]
 pub fn asked_by(count: usize, first: &[u8]) -> Asked
     ensures { result ≡ asked_by count first.now }
 {
-    if count == 0 {
-        return Asked::Default;
+    match count {
+        0 => Asked::Default,
+        1 => asked_by_one(first),
+        _ => Asked::TooMany,
     }
-    if count == 1 {
-        return asked_by_one(first);
-    }
-    Asked::TooMany
 }

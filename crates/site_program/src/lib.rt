@@ -4,7 +4,7 @@
 
 mod arguments;
 
-ghost use Rattle.std.specs.Prelude.{◌≡◌, ◌≤◌, length};
+ghost use Rattle.std.specs.Prelude.{◌≤◌, length, IfSome};
 ghost use Rattle.io.specs.Counts.{IsPrefixLen};
 ghost use Rattle.std.specs.Io.{WritesAtMost};
 
@@ -13,13 +13,13 @@ use std::env::FillError;
 use std::io::Error;
 use std::rt::Env;
 use streams::STDERR_FILENO;
+use text::Text;
 
-// Whether a site file is to be read, whether the user named it, and how long its name is.
+// The name of the site file that is to be read, and whether the user gave it.
 #[derive(Clone, Copy)]
-pub struct AskedSite {
-    pub given: bool,
+pub struct AskedSite<'a> {
+    pub name: &'a [u8],
     pub named: bool,
-    pub count: usize,
 }
 
 // Writes a text. A failure is reported on standard error.
@@ -41,28 +41,27 @@ pub fn write_front(rt: &impl Print, text: &[u8], n: usize) -> bool {
     write_out(rt, &text[..n])
 }
 
+// Writes a text, where it fits its buffer.
+pub fn write_text(rt: &impl Print, text: &Text) -> bool {
+    match text.whole() {
+        Some(bytes) => write_out(rt, bytes),
+        None => false,
+    }
+}
+
 // The same to a file for errors, whose own failure has no place to be reported.
-pub fn write_error(errors: i32, text: &[u8], n: usize) {
-    if n <= text.len() {
-        io::write_all(errors, &text[..n]);
+pub fn write_error(errors: i32, text: &Text) {
+    if let Some(bytes) = text.whole() {
+        io::write_all(errors, bytes);
     }
 }
 
 // Says what is wrong with the site file of that name, if anything is.
 pub fn explain(errors: i32, name: &[u8], file: &[u8]) {
-    let mut text = io::large_buffer();
-    let n = site_diagnosis::put_diagnosis(&mut text, 0, name, file);
-    write_error(errors, &text, n);
-}
-
-fn nothing_asked() -> AskedSite
-    ensures { result.count ≡ 0 }
-{
-    AskedSite {
-        given: false,
-        named: false,
-        count: 0,
-    }
+    let mut buffer = io::large_buffer();
+    let mut text = Text::new(&mut buffer);
+    site_diagnosis::put_diagnosis(&mut text, name, file);
+    write_error(errors, &text);
 }
 
 pub fn print_help(rt: &impl Print, usage: &[u8], help: &[u8]) {
@@ -95,9 +94,10 @@ fn print_no_option(argument: &[u8], usage: &[u8]) {
 
 // Another number of arguments than is wanted.
 pub fn print_wanted(count: usize, wanted: &[u8], usage: &[u8]) {
-    let mut text = io::buffer();
-    let n = phrases::put_wanted(&mut text, 0, count, wanted);
-    write_error(STDERR_FILENO, &text, n);
+    let mut buffer = io::buffer();
+    let mut text = Text::new(&mut buffer);
+    phrases::put_wanted(&mut text, count, wanted);
+    write_error(STDERR_FILENO, &text);
     io::write_all(STDERR_FILENO, usage);
 }
 
@@ -118,10 +118,7 @@ fn length_of(got: Result<usize, FillError>, buf: &[u8]) -> usize
     requires { WritesAtMost got buf.now }
     ensures { IsPrefixLen result buf.now }
 {
-    match got {
-        Ok(n) => n,
-        Err(_) => 0,
-    }
+    got.unwrap_or(0)
 }
 
 // Puts argument i in the front of a buffer: its length, or 0 where it is missing or too long.
@@ -136,84 +133,84 @@ pub fn argument(rt: &impl Env, i: usize, buf: &mut [u8]) -> usize
 pub fn asks_help(rt: &impl Env) -> bool {
     let mut word = io::buffer();
     let n = argument(rt, 1, &mut word);
-    match asked_by(1, &word[..n]) {
-        Asked::Help => true,
-        _ => false,
-    }
+    matches!(asked_by(1, &word[..n]), Asked::Help)
 }
 
-// The default name, in the front of a buffer.
-fn default_name(name: &mut [u8]) -> AskedSite
-    ensures { result.count ≤ length name.new }
+// The name that is read where none is given, if a buffer has room for it.
+fn default_name(buf: &[u8]) -> Option<AskedSite<'static>>
+    ensures { IfSome result (λ site. length site.name.now ≤ length buf.now) }
 {
-    let n = text::put_bytes(name, 0, b"site.bin");
-    if name.len() < n {
-        return nothing_asked();
+    if buf.len() < 8 {
+        return None;
     }
-    AskedSite {
-        given: true,
+    Some(AskedSite {
+        name: b"site.bin",
         named: false,
-        count: n,
-    }
+    })
 }
 
-// An argument that is a site file's name of n bytes, or what is wrong with it.
-fn named(
+// An argument that is a site file's name, or what is wrong with it.
+fn named<'a>(
     asked: Asked,
-    n: usize,
     got: Result<usize, FillError>,
     what: &[u8],
     usage: &[u8],
-    name: &[u8],
-) -> AskedSite
-    requires { IsPrefixLen n name.now }
-    ensures { result.count ≤ n }
+    name: &'a [u8],
+) -> Option<AskedSite<'a>>
+    ensures { IfSome result (λ site. length site.name.now ≤ length name.now) }
 {
     match asked {
-        Asked::Named => AskedSite {
-            given: true,
-            named: true,
-            count: n,
-        },
+        Asked::Named => Some(AskedSite { name, named: true }),
         Asked::NoName => {
             print_no_name(got, what);
-            nothing_asked()
+            None
         }
         _ => {
-            print_no_option(&name[..n], usage);
-            nothing_asked()
+            print_no_option(name, usage);
+            None
         }
     }
 }
 
 // The site file that the arguments ask for; its name is put in the front of a buffer. Help is
 // printed, and arguments that are wrong are reported.
-pub fn asked_site(rt: &(impl Env + Print), usage: &[u8], help: &[u8], name: &mut [u8]) -> AskedSite
-    ensures { result.count ≤ length name.new }
+pub fn asked_site<'a>(
+    rt: &(impl Env + Print),
+    usage: &[u8],
+    help: &[u8],
+    buf: &'a mut [u8],
+) -> Option<AskedSite<'a>>
+    ensures { IfSome result (λ site. length site.name.now ≤ length buf.old) }
 {
     let count = arguments_given(rt);
-    let got = rt.arg(1, name);
-    let n = length_of(got, name);
-    match asked_by(count, &name[..n]) {
-        Asked::Default => default_name(name),
+    let got = rt.arg(1, buf);
+    let n = length_of(got, buf);
+    match asked_by(count, &buf[..n]) {
+        Asked::Default => default_name(buf),
         Asked::Help => {
             print_help(rt, usage, help);
-            nothing_asked()
+            None
         }
         Asked::TooMany => {
             print_wanted(count, b"at most 1", usage);
-            nothing_asked()
+            None
         }
-        asked => named(asked, n, got, b"the site file's name", usage, name),
+        asked => named(asked, got, b"the site file's name", usage, &buf[..n]),
     }
 }
 
 // The site file that argument i names, one of several; `what` says which. Help is not asked for among them.
-pub fn asked_name(rt: &impl Env, i: usize, what: &[u8], usage: &[u8], name: &mut [u8]) -> AskedSite
-    ensures { result.count ≤ length name.new }
+pub fn asked_name<'a>(
+    rt: &impl Env,
+    i: usize,
+    what: &[u8],
+    usage: &[u8],
+    buf: &'a mut [u8],
+) -> Option<AskedSite<'a>>
+    ensures { IfSome result (λ site. length site.name.now ≤ length buf.old) }
 {
-    let got = rt.arg(i, name);
-    let n = length_of(got, name);
-    let asked = asked_by(1, &name[..n]);
-    named(asked, n, got, what, usage, name)
+    let got = rt.arg(i, buf);
+    let n = length_of(got, buf);
+    let name = &buf[..n];
+    named(asked_by(1, name), got, what, usage, name)
 }

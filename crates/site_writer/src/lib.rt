@@ -1,7 +1,7 @@
 // Writing a site file.
 #![tactic(auto)]
 
-ghost use Rattle.std.specs.Prelude.{◌≡◌, false, ◌++◌, ◌+◌, ◌*◌, ◌≤◌, ◌<◌, length, take, drop};
+ghost use Rattle.std.specs.Prelude.{◌≡◌, false, ◌++◌, ◌+◌, ◌*◌, ◌≤◌, ◌<◌, length, take, drop, Ok, IfOk, IsErrOf};
 ghost use Rattle.std.proofs.lemmas.List.Edits.{sets};
 ghost use Rattle.numbers.specs.Words.{bytes};
 ghost use Rattle.ranges.specs.Sections.{size_of};
@@ -11,6 +11,7 @@ ghost use Rattle.site.specs.Writing.{part_of, bytes_of, written_of, out_of};
 
 use output::Written;
 use ranges::Section;
+use refusals::Refusal;
 use site::Site;
 
 // Writes a section after its count over dst from byte `at` on, and gives the byte behind it.
@@ -20,8 +21,7 @@ fn store_section(dst: &mut [u8], at: usize, section: Section, count: u16, v: &[u
     ensures stored { dst.new ≡ sets dst.old at (bytes (part_of section count v.now)) }
 {
     let k = ranges::size(section, count);
-    let head = [count];
-    numbers::store(dst, at, &head);
+    numbers::store(dst, at, &[count]);
     numbers::store(dst, at + 2, &v[..k]);
     at + 2 + k * 2
 }
@@ -42,14 +42,10 @@ fn store_site(site: Site, out: &mut [u8]) -> usize
     requires { (spoilt_site site ≡ false) × (length (bytes_of site) ≤ length out.old) }
     ensures { (result ≡ length (bytes_of site)) × (out.new ≡ bytes_of site ++ drop (length (bytes_of site)) out.old) }
 {
-    let timings = site.timings;
-    let plan = site.plan;
-    let dates = site.dates;
-    let tables = site.tables;
-    let entries = store_section(out, 0, Section::Timings, ranges::TIMINGS, &timings);
-    let holidays = store_section(out, entries, Section::Entries, site.entries, &plan);
-    let levels = store_section(out, holidays, Section::Holidays, site.holidays, &dates);
-    store_section(out, levels, Section::Levels, site.levels, &tables)
+    let entries = store_section(out, 0, Section::Timings, ranges::TIMINGS, &site.timings);
+    let holidays = store_section(out, entries, Section::Entries, site.entries, &site.plan);
+    let levels = store_section(out, holidays, Section::Holidays, site.holidays, &site.dates);
+    store_section(out, levels, Section::Levels, site.levels, &site.tables)
 }
 
 // Writes the record's file to the front of out. What is written reads back as that record. A buffer with
@@ -57,15 +53,14 @@ fn store_site(site: Site, out: &mut [u8]) -> usize
 pub fn write(site: Site, out: &mut [u8]) -> Written
     ensures answer { result ≡ written_of site out.old }
     ensures buffer { out.new ≡ out_of site out.old }
-    ensures back { result.refusal ≡ 0 → read_of (take result.count out.new) ≡ record { refusal = 0; place = 0; site = site } }
-    ensures room { result.refusal ≡ 11 → length out.old < longest_file }
+    ensures back { IfOk result (λ count. read_of (take count out.new) ≡ Ok site) }
+    ensures room { IsErrOf result Refusal.SmallBuffer → length out.old < longest_file }
 {
     if site::spoilt(site) {
-        return output::refused_write(site::SPOILT_SITE);
+        return Err(Refusal::SpoiltSite);
     }
     if out.len() < file_size(site) {
-        return output::refused_write(output::SMALL_BUFFER);
+        return Err(Refusal::SmallBuffer);
     }
-    let count = store_site(site, out);
-    output::accepted_write(count)
+    Ok(store_site(site, out))
 }

@@ -1,7 +1,8 @@
 -- What is promised in words of each answer.
-use Prim.Native.Nat.{suc, ◌≤◌}
+use Prim.Native.Nat.{ℕ, suc, ◌≤◌}
 use mathlib.Core.Path.{◌≡◌, refl, sym}
 use mathlib.Core.Bool.{Bool, true, false, ◌&&◌, true≢false}
+use Rattle.std.specs.Prelude.{Ok, IsOkAnd}
 use lib.Dec.{T, leb→le}
 use lib.IntN.{ℤ, pos, negsuc, nat_abs, pos-ne-negsuc}
 use lib.Signed.{le_z, le_z_yes, ◌≤ℤ◌, ≤ℤ_refl}
@@ -56,7 +57,7 @@ refuses v s = record {
 record Given (v s : ℤ) : Type 0 where
   going : Speed v
   tipped : nat_abs s ≤ 80
-  ticks_are : (yellow_at v s).ticks ≡ ticks_of v s
+  ticks_are : yellow_at v s ≡ Ok (ticks_of v s)
 
 given : (v s : ℤ) → InRange v s → Given v s
 unfolding yellow_at
@@ -72,27 +73,31 @@ slower (pos n) (negsuc n') a b h = absurd (pos-ne-negsuc (suc n') n' (sym b.whol
 slower (negsuc n) v' a b h = absurd (pos-ne-negsuc (suc n) n (sym a.whole))
 
 -- A slower vehicle, and a road that tips upward, have no longer yellow.
-answers_ordered : (v v' s s' : ℤ) → InRange v s → InRange v' s' → v ≤ℤ v' → s' ≤ℤ s → (yellow_at v s).ticks ≤ (yellow_at v' s').ticks
-answers_ordered v v' s s' e e' h l =
+ticks_ordered : (v v' s s' : ℤ) → InRange v s → InRange v' s' → v ≤ℤ v' → s' ≤ℤ s → ticks_of v s ≤ ticks_of v' s'
+ticks_ordered v v' s s' e e' h l =
     let a = given v s e in
     let b = given v' s' e' in
-    rw (a.ticks_are, b.ticks_are) (ordered v v' s s' a.tipped b.tipped (slower v v' a.going b.going h) l)
+    ordered v v' s s' a.tipped b.tipped (slower v v' a.going b.going h) l
+
+-- What holds of the ticks holds of the answer.
+answered : (v s : ℤ) (P : ℕ → Type 0) → InRange v s → P (ticks_of v s) → IsOkAnd (yellow_at v s) P
+answered v s P e h = rw (given v s e).ticks_are h
 
 module _ (v s : ℤ) (e : InRange v s) where
-  pub given_least : LeastEnough v s (yellow_at v s).ticks
-  given_least = let a = given v s e in rw a.ticks_are (ticks_least v s a.going a.tipped)
+  pub given_least : IsOkAnd (yellow_at v s) (LeastEnough v s)
+  given_least = let a = given v s e in answered v s (LeastEnough v s) e (ticks_least v s a.going a.tipped)
 
-  pub given_fits : Fits (yellow_at v s).ticks
-  given_fits = let a = given v s e in rw a.ticks_are (ticks_fit v s a.going.most a.tipped)
+  pub given_fits : IsOkAnd (yellow_at v s) Fits
+  given_fits = let a = given v s e in answered v s Fits e (ticks_fit v s a.going.most a.tipped)
 
-  pub never_grows : NeverGrows v s (yellow_at v s).ticks
-  never_grows = record {
-    higher = λ s' h e'. answers_ordered v v s' s e' e (≤ℤ_refl v) h;
-    lower = λ s' h e'. answers_ordered v v s s' e e' (≤ℤ_refl v) h;
-  }
+  pub never_grows : IsOkAnd (yellow_at v s) (NeverGrows v s)
+  never_grows = answered v s (NeverGrows v s) e (record {
+    higher = λ s' h e'. answered v s' (λ y. y ≤ ticks_of v s) e' (ticks_ordered v v s' s e' e (≤ℤ_refl v) h);
+    lower = λ s' h e'. answered v s' (λ y. ticks_of v s ≤ y) e' (ticks_ordered v v s s' e e' (≤ℤ_refl v) h);
+  })
 
-  pub never_falls : NeverFalls v s (yellow_at v s).ticks
-  never_falls = record {
-    higher = λ v' h e'. answers_ordered v v' s s e e' h (≤ℤ_refl s);
-    lower = λ v' h e'. answers_ordered v' v s s e' e h (≤ℤ_refl s);
-  }
+  pub never_falls : IsOkAnd (yellow_at v s) (NeverFalls v s)
+  never_falls = answered v s (NeverFalls v s) e (record {
+    higher = λ v' h e'. answered v' s (λ y. ticks_of v s ≤ y) e' (ticks_ordered v v' s s e e' h (≤ℤ_refl s));
+    lower = λ v' h e'. answered v' s (λ y. y ≤ ticks_of v s) e' (ticks_ordered v' v s s e' e h (≤ℤ_refl s));
+  })

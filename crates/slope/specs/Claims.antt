@@ -1,9 +1,11 @@
 -- Document 02, A10, what it asks to be shown, in words without a test: of the answer at speed v and grade s.
-use Rattle.std.specs.Prelude.{ℕ, ◌≤◌, ◌≡◌, true, ℤ, pos, neg_ℤ, ◌≤ℤ◌}
+use Rattle.std.specs.Prelude.{ℕ, ◌≤◌, ◌≡◌, true, ℤ, pos, neg_ℤ, ◌≤ℤ◌, IsOk, IsOkAnd}
+use Rattle.std.specs.Prelude.{Result, Err}
 use Rattle.numbers.specs.Within.{is_within}
 use Rattle.ranges.specs.Ranges.{timing_range}
-use Rattle.slope.specs.declared.Yellow.{Yellow}
-use Rattle.slope.specs.Slope.{yellow_at}
+use Rattle.refusals.specs.declared.Refusal.{Refusal}
+use Rattle.refusals.specs.declared.Refusal.TheVariants.{BadApproach}
+use Rattle.slope.specs.Slope.{yellow_at, ticks_given}
 
 -- "Approach speed v, 20-80 km/h, and grade s in per mille, downhill negative, -80 to 80."
 pub record InRange (v s : ℤ) : Type 0 where
@@ -13,9 +15,9 @@ pub record InRange (v s : ℤ) : Type 0 where
   pub most_grade_lem : s ≤ℤ pos 80
 
 -- "16: speed or grade out of range; the yellow given is 0." Nothing else is refused.
-pub record Refuses (v s : ℤ) (r : Yellow) : Type 0 where
-  pub given : InRange v s → r.refusal ≡ 0
-  pub refused : (InRange v s → ⊥) → (r.refusal ≡ 16) × (r.ticks ≡ 0)
+pub record Refuses (v s : ℤ) (r : Result ℕ Refusal) : Type 0 where
+  pub given : InRange v s → IsOk r
+  pub refused : (InRange v s → ⊥) → (r ≡ Err BadApproach) × (ticks_given r ≡ 0)
 
 -- "Lies within 10-60": and so in the ranges that the site file has for its yellow, the sixth timing, and its startup yellow, the tenth,
 -- whatever its number of lanes and its minimum green are.
@@ -27,11 +29,11 @@ pub record Fits (y : ℕ) : Type 0 where
 
 -- "Never grows as the road tips upward": at the same speed no higher grade in range has a longer yellow, and no lower one a shorter.
 pub record NeverGrows (v s : ℤ) (y : ℕ) : Type 0 where
-  pub higher : (s' : ℤ) → s ≤ℤ s' → InRange v s' → (yellow_at v s').ticks ≤ y
-  pub lower : (s' : ℤ) → s' ≤ℤ s → InRange v s' → y ≤ (yellow_at v s').ticks
+  pub higher : (s' : ℤ) → s ≤ℤ s' → InRange v s' → IsOkAnd (yellow_at v s') (λ y'. y' ≤ y)
+  pub lower : (s' : ℤ) → s' ≤ℤ s → InRange v s' → IsOkAnd (yellow_at v s') (λ y'. y ≤ y')
 
 -- Beyond the request, it never falls as the speed rises: on the same grade no higher speed in range has a shorter yellow, and no lower one
 -- a longer.
 pub record NeverFalls (v s : ℤ) (y : ℕ) : Type 0 where
-  pub higher : (v' : ℤ) → v ≤ℤ v' → InRange v' s → y ≤ (yellow_at v' s).ticks
-  pub lower : (v' : ℤ) → v' ≤ℤ v → InRange v' s → (yellow_at v' s).ticks ≤ y
+  pub higher : (v' : ℤ) → v ≤ℤ v' → InRange v' s → IsOkAnd (yellow_at v' s) (λ y'. y ≤ y')
+  pub lower : (v' : ℤ) → v' ≤ℤ v → InRange v' s → IsOkAnd (yellow_at v' s) (λ y'. y' ≤ y)

@@ -1,8 +1,10 @@
 -- Document 02, A10: the yellow worked out from an approach speed v and a grade s. Both are any numbers, negative ones too.
 use Rattle.std.specs.Prelude.{ℕ, ◌+◌, ◌*◌, Bool, cond, ◌&&◌, ℤ, pos, neg_ℤ, nat_abs, ◌+ℤ◌, ◌*ℤ◌}
+use Rattle.std.specs.Prelude.{Result, Ok, Err}
 use Rattle.std.specs.Int.Signed.{le_z}
 use Rattle.rounding.specs.Up.{rounded_up}
-use Rattle.slope.specs.declared.Yellow.{Yellow}
+use Rattle.refusals.specs.declared.Refusal.{Refusal}
+use Rattle.refusals.specs.declared.Refusal.TheVariants.{BadApproach}
 
 -- From low to high, both included.
 unfoldable pub is_from : ℤ → ℤ → ℤ → Bool
@@ -37,9 +39,11 @@ divisor_of s = pos 9 *ℤ (pos 305000 +ℤ pos 981 *ℤ s)
 unfoldable pub ticks_of : ℤ → ℤ → ℕ
 ticks_of v s = 10 + rounded_up (1250000 * nat_abs v) (nat_abs (divisor_of s))
 
--- "16: speed or grade out of range; the yellow given is 0."
-abbrev pub refused_yellow : Yellow
-refused_yellow = record { refusal = 16; ticks = 0 }
+-- The ticks, or the refusal: "16: speed or grade out of range; the yellow given is 0."
+unfoldable pub yellow_at : ℤ → ℤ → Result ℕ Refusal
+yellow_at v s = cond (speed_in v && grade_in s) (Ok (ticks_of v s)) (Err BadApproach)
 
-unfoldable pub yellow_at : ℤ → ℤ → Yellow
-yellow_at v s = cond (speed_in v && grade_in s) (record { refusal = 0; ticks = ticks_of v s }) refused_yellow
+-- The yellow given, in ticks: 0 where it is refused.
+abbrev pub ticks_given : Result ℕ Refusal → ℕ
+ticks_given (Ok ticks) = ticks
+ticks_given (Err refusal) = 0

@@ -1,20 +1,12 @@
 // The yellow of an approach speed and a grade.
 #![tactic(auto)]
 
-ghost use Rattle.std.specs.Prelude.{◌≡◌, true};
-ghost use Rattle.slope.specs.Slope.{is_from, speed_in, grade_in, divisor_of, ticks_of, refused_yellow, yellow_at};
+ghost use Rattle.std.specs.Prelude.{◌≡◌, true, IsOkAnd};
+ghost use Rattle.slope.specs.Slope.{is_from, speed_in, grade_in, divisor_of, ticks_of, yellow_at, ticks_given};
 ghost use Rattle.slope.specs.Kinematic.{LeastEnough};
 ghost use Rattle.slope.specs.Claims.{InRange, Refuses, Fits, NeverGrows, NeverFalls};
 
-// The refusal, or 0, and the yellow in ticks, 0 where it is refused.
-#[derive(Clone, Copy)]
-pub struct Yellow {
-    pub refusal: u8,
-    pub ticks: u16,
-}
-
-// An approach speed or a grade out of range.
-pub const BAD_APPROACH: u8 = 16;
+use refusals::Refusal;
 
 // The approach speeds in km/h, and the grades in per mille, that are in range.
 pub const LEAST_SPEED: i64 = 20;
@@ -64,32 +56,24 @@ fn ticks(speed: i64, grade: i64) -> u16
     (10 + (1250000 * (speed as u64) + (below - 1)) / below) as u16
 }
 
-fn refused() -> Yellow
-    ensures { result ≡ refused_yellow }
-{
-    Yellow {
-        refusal: BAD_APPROACH,
-        ticks: 0,
-    }
-}
-
-// The yellow of an approach speed in km/h and a grade in per mille, downhill negative.
-pub fn yellow_at(speed: i64, grade: i64) -> Yellow
+// The yellow, in ticks, of an approach speed in km/h and a grade in per mille, downhill negative.
+pub fn yellow_at(speed: i64, grade: i64) -> Result<u16, Refusal>
     ensures is { result ≡ yellow_at speed grade }
     ensures refuses { Refuses speed grade result }
-    ensures least { InRange speed grade → LeastEnough speed grade result.ticks }
-    ensures fits { InRange speed grade → Fits result.ticks }
-    ensures upward { InRange speed grade → NeverGrows speed grade result.ticks }
-    ensures faster { InRange speed grade → NeverFalls speed grade result.ticks }
+    ensures least { InRange speed grade → IsOkAnd result (LeastEnough speed grade) }
+    ensures fits { InRange speed grade → IsOkAnd result Fits }
+    ensures upward { InRange speed grade → IsOkAnd result (NeverGrows speed grade) }
+    ensures faster { InRange speed grade → IsOkAnd result (NeverFalls speed grade) }
 {
-    if !speed_in(speed) {
-        return refused();
+    if speed_in(speed) && grade_in(grade) {
+        return Ok(ticks(speed, grade));
     }
-    if !grade_in(grade) {
-        return refused();
-    }
-    Yellow {
-        refusal: 0,
-        ticks: ticks(speed, grade),
-    }
+    Err(Refusal::BadApproach)
+}
+
+// The yellow given, in ticks: 0 where it is refused.
+pub fn ticks_given(yellow: Result<u16, Refusal>) -> u16
+    ensures { result ≡ ticks_given yellow }
+{
+    yellow.unwrap_or(0)
 }

@@ -22,6 +22,7 @@ pub fn tenths(x: f64) -> u32
 {
     let mut lo: u32 = 0;
     let mut hi: u32 = TOO_MANY;
+    // halves what is left to search
     while 1 < hi - lo {
         let k = lo + (hi - lo) / 2;
         if reaches(x, k) {

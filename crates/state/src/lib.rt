@@ -15,31 +15,25 @@ pub struct State {
     pub periods: Periods,
 }
 
-// A state outside its ranges.
-pub const SPOILT_STATE: u8 = 13;
-
 // Whether a state is outside its ranges, at a site of this shape.
 pub fn spoilt(s: State, shape: Shape) -> bool
     ensures { result ≡ state_spoilt s shape }
 {
-    let group = s.group;
-    if group::group_spoilt(group, shape.lanes, shape.priority) {
+    if group::group_spoilt(s.group, shape) {
         return true;
     }
-    let periods = s.periods;
-    period::periods_spoilt(periods, shape.lanes, shape.mainline)
+    period::periods_spoilt(s.periods, shape)
 }
 
 // The state at power-up, at a site of n metered lanes.
 pub fn fresh(n: u16) -> State
     ensures { result ≡ fresh_state n }
 {
-    let lanes = lanes::entered(n);
     State {
         group: Group {
             interval: group::INITIALIZATION,
             age: 0,
-            lanes,
+            lanes: lanes::entered(n),
             bypass: bypass::none(),
         },
         periods: period::no_periods(),

@@ -4,7 +4,9 @@
 ghost use Rattle.io.specs.Counts.{IsPrefixLen};
 
 use output::Written;
+use refusals::Refusal;
 use streams::STDOUT_FILENO;
+use text::Text;
 
 // Buffers hold this byte before a call.
 const UNTOUCHED: u8 = 165;
@@ -20,22 +22,12 @@ pub fn buffer() -> [u8; ROOM] {
 pub fn front_length(buffer: &[u8], size: usize) -> usize
     ensures { IsPrefixLen result buffer.now }
 {
-    if buffer.len() < size {
-        return buffer.len();
-    }
-    size
+    size.min(buffer.len())
 }
 
 // Whether the bytes from a place on are as they were before the call.
 pub fn untouched(buffer: &[u8], from: usize) -> bool {
-    let mut i = from;
-    while i < buffer.len() {
-        if buffer[i] != UNTOUCHED {
-            return false;
-        }
-        i += 1;
-    }
-    true
+    buffer.iter().skip(from).all(|byte| *byte == UNTOUCHED)
 }
 
 // The greatest prime below 2^32.
@@ -46,26 +38,28 @@ pub fn digested(digest: u32, number: u16) -> u32 {
     (((digest as u64) * 31 + (number as u64)) % DIGEST_MODULUS) as u32
 }
 
-// Prints a text's first n bytes, where it has as many.
-pub fn print(text: &[u8], n: usize) {
-    if n <= text.len() {
-        io::write_all(STDOUT_FILENO, &text[..n]);
+// Prints a text, where it fits its buffer.
+pub fn print(text: &Text) {
+    if let Some(bytes) = text.whole() {
+        io::write_all(STDOUT_FILENO, bytes);
     }
 }
 
 // The line of a site file that is refused.
-pub fn print_refusal(refusal: u8, place: usize) {
-    let mut line = io::buffer();
-    let end = phrases::put_refusal(&mut line, 0, refusal, place);
-    print(&line, end);
+pub fn print_refusal(refusal: Refusal, place: usize) {
+    let mut buffer = io::buffer();
+    let mut line = Text::new(&mut buffer);
+    phrases::put_refusal(&mut line, refusal, place);
+    print(&line);
 }
 
 // What a call answered, and whether it left every byte behind what it wrote as it was.
-pub fn put_written(out: &mut [u8], at: usize, written: Written, kept: bool) -> usize {
-    let p = phrases::put_blank_and_decimal(out, at, written.refusal as u64);
-    let q = phrases::put_blank_and_decimal(out, p, written.count as u64);
-    if kept {
-        return text::put_bytes(out, q, b" kept");
-    }
-    text::put_bytes(out, q, b" touched")
+pub fn put_written(out: &mut Text, written: Written, kept: bool) {
+    let (refusal, count) = match written {
+        Ok(count) => (0, count),
+        Err(refusal) => (refusal.number(), 0),
+    };
+    phrases::put_blank_and_decimal(out, refusal as u64);
+    phrases::put_blank_and_decimal(out, count as u64);
+    out.put(if kept { b" kept" } else { b" touched" });
 }

@@ -2,3 +2,4 @@ pub mod DecimalLaws
 pub mod ItemLaws
 pub mod JoinedLaws
 pub mod PutLaws
+pub mod PutsLaws

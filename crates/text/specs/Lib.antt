@@ -3,3 +3,4 @@ pub mod Decimal
 pub mod Items
 pub mod Joined
 pub mod Put
+pub mod Puts

@@ -1,11 +1,11 @@
 -- A list of ticks since power-up: what each leaves, and what holds of it all along.
-use Prim.Native.Nat.{ℕ}
 use mathlib.Core.Path.{◌≡◌, refl, sym, ◌∙◌, ap, subst}
 use mathlib.Core.Bool.{true, false, true≢false}
 use mathlib.Core.List.{List, ◌++◌}
 use native.Mathlib.Omega.{arith}
-use borrow.Author.Tests.{eqb-true, eq-eqb}
-use lib.Dec.{eqb}
+use Rattle.std.specs.Prelude.{Option, Some, None}
+use Rattle.std.specs.Option.{is_none}
+use Rattle.refusals.specs.declared.Refusal.{Refusal}
 use Rattle.runs.proofs.RunLaws.{split_run, reached}
 use Rattle.site.specs.declared.Site.{Site}
 use Rattle.site.specs.Record.{spoilt_site}
@@ -19,31 +19,34 @@ use Rattle.state.proofs.StateLaws.{StateGood, fresh_good}
 use Rattle.waiting.proofs.LaneRank.{Sound}
 use Rattle.waiting.proofs.Chain.{Chain, chain_enter, chain_moved}
 use Rattle.tick.specs.Checks.{tick_refusal}
-use Rattle.tick.specs.Tick.{power_up_of, decided_in, cycle_in, moved_in, accepted_tick, refused_tick, tick_of}
+use Rattle.tick.specs.Tick.{power_up_of, decided_in, cycle_in, moved_in, accepted_tick, refused_tick, tick_by, tick_of}
 use Rattle.tick.specs.Course.{Call, Course, at_power_up, answer_to, is_accepted, onward, course_after, AtAccepted}
-use Rattle.tick.proofs.TickLaws.{Accepted, accepted, sound_timings, tick_keeps}
+use Rattle.tick.proofs.TickLaws.{Accepted, accepted, refusal_is, tick_is, sound_timings, tick_keeps}
 
 -- A tick is accepted where no check refuses it, and is then what the rules make of it; a refused one leaves all as it was.
 module _ (c : Course) (call : Call) where
-  abbrev refusal : ℕ
+  abbrev refusal : Option Refusal
   refusal = tick_refusal call.site c.state call.input
 
-  not_refused : is_accepted c call ≡ true → refusal ≡ 0
-  unfolding is_accepted answer_to tick_of refused_tick
-  not_refused e =
-      by_test (eqb refusal 0) (λ f. eqb-true refusal 0 f) (λ f. absurd (true≢false (sym (rw f at e) ∙ f)))
+  not_refused : is_accepted c call ≡ true → refusal ≡ None
+  unfolding is_accepted answer_to
+  not_refused e = none_is refusal (ap is_none (sym (refusal_is call.site c.state call.input)) ∙ e)
+    where
+      none_is : (r : Option Refusal) → is_none r ≡ true → r ≡ None
+      none_is None e = refl
+      none_is (Some r) e = absurd (true≢false (sym e))
 
   answer_accepted : is_accepted c call ≡ true → answer_to c call ≡ accepted_tick call.site c.state call.input
-  unfolding answer_to tick_of
-  answer_accepted e = rw (eq-eqb refusal 0 (not_refused e))
-
-  was_refused : is_accepted c call ≡ false → eqb refusal 0 ≡ false
-  unfolding is_accepted answer_to tick_of accepted_tick
-  was_refused e = by_test (eqb refusal 0) (λ f. absurd (true≢false (rw f at e))) (λ f. f)
+  unfolding answer_to
+  answer_accepted e = tick_is call.site c.state call.input (not_refused e)
 
   same_state : is_accepted c call ≡ false → (answer_to c call).state ≡ c.state
-  unfolding answer_to tick_of refused_tick
-  same_state e = rw (was_refused e)
+  unfolding is_accepted answer_to tick_of tick_by accepted_tick refused_tick
+  same_state e = left refusal e
+    where
+      left : (r : Option Refusal) → is_none (tick_by call.site c.state call.input r).refusal ≡ false → (tick_by call.site c.state call.input r).state ≡ c.state
+      left None e = absurd (true≢false e)
+      left (Some r) e = refl
 
   pub stays : is_accepted c call ≡ false → onward c call ≡ c
   unfolding onward
@@ -68,7 +71,7 @@ module _ (x : Site) (ok : spoilt_site x ≡ false) where
   module _ (c : Course) (call : Call) (going : Going c) (same : is_accepted c call ≡ true → call.site ≡ x) where
     -- An accepted tick, at the power-up's site.
     pub passed : is_accepted c call ≡ true → Accepted x c.state call.input
-    passed e = accepted x c.state call.input (subst (λ (y : Site). tick_refusal y c.state call.input ≡ 0) (same e) (not_refused c call e))
+    passed e = accepted x c.state call.input (subst (λ (y : Site). tick_refusal y c.state call.input ≡ None) (same e) (not_refused c call e))
 
     pub answer : is_accepted c call ≡ true → answer_to c call ≡ accepted_tick x c.state call.input
     answer e = answer_accepted c call e ∙ ap (λ y. accepted_tick y c.state call.input) (same e)

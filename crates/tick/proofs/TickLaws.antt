@@ -3,8 +3,10 @@ use Prim.Native.Nat.{ℕ, ◌≤◌}
 use mathlib.Core.Path.{◌≡◌, refl, sym}
 use mathlib.Core.Bool.{Bool, true, false, cond}
 use native.Mathlib.Omega.{arith}
-use borrow.Author.Tests.{eqb-true, eq-eqb}
 use lib.Dec.{eqb}
+use Rattle.std.specs.Prelude.{Option, Some, None}
+use Rattle.std.proofs.lemmas.Option.{none-some}
+use Rattle.refusals.specs.declared.Refusal.{Refusal}
 use Rattle.loops.proofs.AnyLaws.{neither}
 use Rattle.loops.proofs.Cases.{by_test}
 use Rattle.site.specs.declared.Site.{Site}
@@ -43,7 +45,7 @@ use Rattle.serving.specs.Bypassed.{Bypassed}
 use Rattle.serving.proofs.BypassedLaws.{bypassed}
 use Rattle.tick.specs.declared.Input.{Input}
 use Rattle.tick.specs.Checks.{sample_bad, input_refusal, tick_refusal}
-use Rattle.tick.specs.Tick.{counted_in, decided_in, cycle_in, moved_in, decided_of, finished_with, accepted_tick, refused_tick, tick_of}
+use Rattle.tick.specs.Tick.{counted_in, decided_in, cycle_in, moved_in, decided_of, finished_with, accepted_tick, refused_tick, tick_by, tick_of}
 use Rattle.tick.specs.Cycle.{MeteringCycle, Cycled}
 
 pub record Accepted (x : Site) (s : State) (i : Input) : Type 0 where
@@ -53,10 +55,10 @@ pub record Accepted (x : Site) (s : State) (i : Input) : Type 0 where
   pub samples : samples_bad i.lanes i.main (metered_lanes x) (mainline_lanes x) ≡ false
   pub commands : commands_bad i.manual i.centre ≡ false
 
--- Where a check's answer is 0, what it asks does not hold, and the rest answers 0.
-passes : (b : Bool) (k rest : ℕ) → 1 ≤ k → cond b k rest ≡ 0 → (b ≡ false) × (rest ≡ 0)
-passes true k rest h e = absurd (omega arith)
-passes false k rest h e = (refl, e)
+-- Where a check refuses nothing, what it asks does not hold, and the rest refuses nothing.
+passes : (b : Bool) (k : Refusal) (rest : Option Refusal) → cond b (Some k) rest ≡ None → (b ≡ false) × (rest ≡ None)
+passes true k rest e = absurd (none-some k (sym e))
+passes false k rest e = (refl, e)
 
 -- An input that no check refuses, at a site of this shape.
 pub record Fine (h : Shape) (i : Input) : Type 0 where
@@ -64,27 +66,27 @@ pub record Fine (h : Shape) (i : Input) : Type 0 where
   pub samples : samples_bad i.lanes i.main h.lanes h.mainline ≡ false
   pub commands : commands_bad i.manual i.centre ≡ false
 
-pub fine : (h : Shape) (i : Input) → input_refusal h i ≡ 0 → Fine h i
+pub fine : (h : Shape) (i : Input) → input_refusal h i ≡ None → Fine h i
 unfolding input_refusal sample_bad
 fine h i e =
-    let r = passes (clock_bad i.clock) 8 _ (omega arith) e in
-    let u = passes (sample_bad h i) 9 _ (omega arith) r.1 in
+    let r = passes (clock_bad i.clock) _ _ e in
+    let u = passes (sample_bad h i) _ _ r.1 in
     let w = (neither (samples_bad i.lanes i.main h.lanes h.mainline) (calls_bad i.calls) u.0).0 in
-    let v = passes (commands_bad i.manual i.centre) 10 0 (omega arith) u.1 in
+    let v = passes (commands_bad i.manual i.centre) _ _ u.1 in
     record { clock = r.0; samples = w; commands = v.0 }
 
-pub accepted : (x : Site) (s : State) (i : Input) → tick_refusal x s i ≡ 0 → Accepted x s i
+pub accepted : (x : Site) (s : State) (i : Input) → tick_refusal x s i ≡ None → Accepted x s i
 unfolding tick_refusal
 accepted x s i e =
-    let p = passes (spoilt_site x) 14 _ (omega arith) e in
-    let q = passes (state_spoilt s (shape_of x)) 13 _ (omega arith) p.1 in
+    let p = passes (spoilt_site x) _ _ e in
+    let q = passes (state_spoilt s (shape_of x)) _ _ p.1 in
     let f = fine (shape_of x) i q.1 in
     record { site = p.0; state = q.0; clock = f.clock; samples = f.samples; commands = f.commands }
 
 -- The input's checks are among the tick's.
-pub input_passed : (x : Site) (s : State) (i : Input) → tick_refusal x s i ≡ 0 → input_refusal (shape_of x) i ≡ 0
+pub input_passed : (x : Site) (s : State) (i : Input) → tick_refusal x s i ≡ None → input_refusal (shape_of x) i ≡ None
 unfolding tick_refusal
-input_passed x s i e = (passes (state_spoilt s (shape_of x)) 13 _ (omega arith) (passes (spoilt_site x) 14 _ (omega arith) e).1).1
+input_passed x s i e = (passes (state_spoilt s (shape_of x)) _ _ (passes (spoilt_site x) _ _ e).1).1
 
 -- The timings of a site that is not spoilt.
 pub sound_timings : (x : Site) → spoilt_site x ≡ false → Sound (timings_of x)
@@ -219,17 +221,21 @@ pub input_alone : (x : Site) (s : State) (i : Input) → spoilt_site x ≡ false
 unfolding tick_refusal
 input_alone x s i a b = rw (a, b)
 
--- A tick answers what its checks do; where that is 0, it is what the rules make of it, and its state is in range again.
+-- A tick answers what its checks do; where none refuses, it is what the rules make of it, and its state is in range again.
 module _ (x : Site) (s : State) (i : Input) where
   pub refusal_is : (tick_of x s i).refusal ≡ tick_refusal x s i
-  unfolding tick_of accepted_tick refused_tick
-  refusal_is = by_test (eqb (tick_refusal x s i) 0) (λ e. rw e (sym (eqb-true (tick_refusal x s i) 0 e))) (λ e. rw e)
+  unfolding tick_of tick_by accepted_tick refused_tick
+  refusal_is = said (tick_refusal x s i)
+    where
+      said : (r : Option Refusal) → (tick_by x s i r).refusal ≡ r
+      said None = refl
+      said (Some r) = refl
 
-  pub tick_is : tick_refusal x s i ≡ 0 → tick_of x s i ≡ accepted_tick x s i
-  unfolding tick_of
-  tick_is e = rw (eq-eqb (tick_refusal x s i) 0 e)
+  pub tick_is : tick_refusal x s i ≡ None → tick_of x s i ≡ accepted_tick x s i
+  unfolding tick_of tick_by
+  tick_is e = rw e
 
-  pub tick_kept : tick_refusal x s i ≡ 0 → StateGood (tick_of x s i).state (shape_of x)
+  pub tick_kept : tick_refusal x s i ≡ None → StateGood (tick_of x s i).state (shape_of x)
   tick_kept e = rw (tick_is e) (tick_keeps x s i (accepted x s i e))
 
 -- An accepted tick, by its parts.

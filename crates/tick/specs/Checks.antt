@@ -1,5 +1,7 @@
--- Document 01, 'Refusals': "Power-up checks 14." "A tick checks 14, 13, 8, 9, 10." 0 is no refusal.
-use Rattle.std.specs.Prelude.{ℕ, Bool, cond, ◌||◌}
+-- Document 01, 'Refusals': "Power-up checks 14." "A tick checks 14, 13, 8, 9, 10." `None` is no refusal.
+use Rattle.std.specs.Prelude.{Bool, cond, ◌||◌, Option, Some, None}
+use Rattle.refusals.specs.declared.Refusal.{Refusal}
+use Rattle.refusals.specs.declared.Refusal.TheVariants.{BadClock, BadSample, BadCommand, SpoiltState, SpoiltSite}
 use Rattle.timings.specs.declared.Shape.{Shape}
 use Rattle.site.specs.declared.Site.{Site}
 use Rattle.site.specs.Record.{spoilt_site}
@@ -16,11 +18,11 @@ unfoldable pub sample_bad : Shape → Input → Bool
 sample_bad h i = samples_bad i.lanes i.main h.lanes h.mainline || calls_bad i.calls
 
 -- 8, 9, 10: the checks of one tick's input, at a site of this shape.
-unfoldable pub input_refusal : Shape → Input → ℕ
+unfoldable pub input_refusal : Shape → Input → Option Refusal
 input_refusal h i =
-    cond (clock_bad i.clock) 8 (cond (sample_bad h i) 9 (cond (commands_bad i.manual i.centre) 10 0))
+    cond (clock_bad i.clock) (Some BadClock) (cond (sample_bad h i) (Some BadSample) (cond (commands_bad i.manual i.centre) (Some BadCommand) None))
 
 -- 14, 13, then the input's.
-unfoldable pub tick_refusal : Site → State → Input → ℕ
+unfoldable pub tick_refusal : Site → State → Input → Option Refusal
 tick_refusal x s i =
-    cond (spoilt_site x) 14 (cond (state_spoilt s (shape_of x)) 13 (input_refusal (shape_of x) i))
+    cond (spoilt_site x) (Some SpoiltSite) (cond (state_spoilt s (shape_of x)) (Some SpoiltState) (input_refusal (shape_of x) i))

@@ -1,6 +1,7 @@
 -- A list of ticks since power-up, refused ones included. All of it is what the rules give from the sites and inputs handed in; the calls
 -- promise that what they return is that.
-use Rattle.std.specs.Prelude.{ℕ, Bool, cond, List, eqb}
+use Rattle.std.specs.Prelude.{ℕ, Bool, cond, List}
+use Rattle.std.specs.Option.{is_none}
 use Rattle.runs.specs.Runs.{after, AtEach, accepted_in}
 use Rattle.site.specs.declared.Site.{Site}
 use Rattle.group.specs.declared.indication.Indications.{Indications}
@@ -28,7 +29,7 @@ unfoldable pub answer_to : Course → Call → Ticked
 answer_to c call = tick_of call.site c.state call.input
 
 unfoldable pub is_accepted : Course → Call → Bool
-is_accepted c call = eqb (answer_to c call).refusal 0
+is_accepted c call = is_none (answer_to c call).refusal
 
 unfoldable pub onward : Course → Call → Course
 onward c call = record { state = (answer_to c call).state; shown = cond (is_accepted c call) (answer_to c call).shown c.shown }

@@ -1,5 +1,7 @@
 -- Document 01, 'One tick's input', 'Refusals': power-up and the tick.
-use Rattle.std.specs.Prelude.{ℕ, cond, ltb, eqb}
+use Rattle.std.specs.Prelude.{ℕ, cond, Option, Some, None}
+use Rattle.refusals.specs.declared.Refusal.{Refusal}
+use Rattle.refusals.specs.declared.Refusal.TheVariants.{SpoiltState, SpoiltSite}
 use Rattle.site.specs.declared.Site.{Site}
 use Rattle.site.specs.Record.{spoilt_site}
 use Rattle.site.specs.Named.{timings_of, metered_lanes, mainline_lanes}
@@ -10,11 +12,12 @@ use Rattle.wanted.specs.declared.Decision.{Decision}
 use Rattle.wanted.specs.Wish.{rate_of}
 use Rattle.wanted.specs.Decision.{decision_of, no_decision}
 use Rattle.release.specs.Cycle.{cycle_ticks}
-use Rattle.bypass.specs.declared.Doing.TheVariants.{None}
+use Rattle.bypass.specs.declared.Doing.TheVariants.{None as NoBypass}
 use Rattle.bypass.specs.Lanes.{doing_of}
 use Rattle.group.specs.declared.Group.{Group}
 use Rattle.group.specs.declared.Moved.{Moved}
 use Rattle.group.specs.Group.{moved_of}
+use Rattle.group.specs.declared.indication.Indications.{Indications}
 use Rattle.group.specs.Indications.{indications_of, all_dark}
 use Rattle.state.specs.declared.State.{State}
 use Rattle.state.specs.State.{fresh_state, zero_state}
@@ -26,7 +29,7 @@ use Rattle.tick.specs.Checks.{tick_refusal}
 
 -- "Power-up checks 14; refused, it gives an all-zero state."
 unfoldable pub power_up_of : Site → PoweredUp
-power_up_of x = cond (spoilt_site x) (record { refusal = 14; state = zero_state }) (record { refusal = 0; state = fresh_state (metered_lanes x) })
+power_up_of x = cond (spoilt_site x) (record { refusal = Some SpoiltSite; state = zero_state }) (record { refusal = None; state = fresh_state (metered_lanes x) })
 
 -- "Order within a tick: counts, what is wanted, group interval, lane intervals, release." The counts come first, so what is wanted looks at
 -- the period that this very tick closes.
@@ -47,7 +50,7 @@ unfoldable pub accepted_tick : Site → State → Input → Ticked
 accepted_tick x s i =
     let moved : Moved = moved_in x s i in
     record {
-      refusal = 0;
+      refusal = None;
       state = record { group = moved.group; periods = after_release (counted_in x s i) moved.released };
       shown = indications_of moved.group (metered_lanes x);
       decision = decided_in x s i;
@@ -67,7 +70,7 @@ unfoldable pub finished_with : Timings → Group → Input → Periods → Decid
 finished_with t g i counted decided =
     let moved : Moved = moved_of t i.calls decided.decision.wish decided.cycle i.lanes g in
     record {
-      refusal = 0;
+      refusal = None;
       state = record { group = moved.group; periods = after_release counted moved.released };
       shown = indications_of moved.group t.lanes;
       decision = decided.decision;
@@ -76,18 +79,28 @@ finished_with t g i counted decided =
       bypass = doing_of t moved.group.bypass moved.group.lanes;
     }
 
--- "A refused tick returns the state that came. After 13 or 14 its indications are all dark with the sign off; after 8-10 they are those of
--- that state." It decided nothing, and names no bypass, also where one is kept.
-unfoldable pub refused_tick : Site → State → ℕ → Ticked
+-- "After 13 or 14 its indications are all dark with the sign off; after 8-10 they are those of that state."
+unfoldable pub shown_after : Site → State → Refusal → Indications
+shown_after x s SpoiltState = all_dark
+shown_after x s SpoiltSite = all_dark
+shown_after x s refusal = indications_of s.group (metered_lanes x)
+
+-- "A refused tick returns the state that came." It decided nothing, and names no bypass, also where one is kept.
+unfoldable pub refused_tick : Site → State → Refusal → Ticked
 refused_tick x s refusal = record {
-  refusal = refusal;
+  refusal = Some refusal;
   state = s;
-  shown = cond (ltb refusal 13) (indications_of s.group (metered_lanes x)) all_dark;
+  shown = shown_after x s refusal;
   decision = no_decision;
   cycle = 0;
   released = 0;
-  bypass = None;
+  bypass = NoBypass;
 }
 
+-- A tick of which the checks say so.
+unfoldable pub tick_by : Site → State → Input → Option Refusal → Ticked
+tick_by x s i None = accepted_tick x s i
+tick_by x s i (Some refusal) = refused_tick x s refusal
+
 unfoldable pub tick_of : Site → State → Input → Ticked
-tick_of x s i = cond (eqb (tick_refusal x s i) 0) (accepted_tick x s i) (refused_tick x s (tick_refusal x s i))
+tick_of x s i = tick_by x s i (tick_refusal x s i)

@@ -1,7 +1,7 @@
 // Power-up, and the tick: one call per tenth of a second.
 #![tactic(auto)]
 
-ghost use Rattle.std.specs.Prelude.{◌≡◌, ℕ, ◌≤◌, ◌<◌, false, get_or};
+ghost use Rattle.std.specs.Prelude.{◌≡◌, ℕ, ◌≤◌, ◌<◌, false, get_or, None};
 ghost use Rattle.site.specs.Record.{spoilt_site};
 ghost use Rattle.site.specs.Named.{timings_of, shape_of};
 ghost use Rattle.wanted.specs.Wish.{rate_of};
@@ -25,6 +25,7 @@ use calendar::Clock;
 use group::{Group, Indications};
 use inputs::{Calls, Command, Mainline, Metered};
 use period::Periods;
+use refusals::Refusal;
 use site::Site;
 use state::State;
 use timings::{Shape, Timings};
@@ -42,12 +43,12 @@ pub struct Input {
     pub centre: Command,
 }
 
-// What a tick gives: the refusal, or 0; the state and the lamps; what was decided, the cycle of a wish
+// What a tick gives: the refusal, if a check refuses; the state and the lamps; what was decided, the cycle of a wish
 // to meter or 0, the lane released, from 1, or 0, and what the bus bypass does: of a refused tick
 // nothing, whatever is kept.
 #[derive(Clone, Copy)]
 pub struct Ticked {
-    pub refusal: u8,
+    pub refusal: Option<Refusal>,
     pub state: State,
     pub shown: Indications,
     pub decision: Decision,
@@ -63,17 +64,18 @@ pub struct DecidedTick {
     pub cycle: u16,
 }
 
-// What power-up gives: the refusal, or 0, and the state.
+// What power-up gives: the refusal, if the check refuses, and the state. It is no Result, since a caller
+// gets a state after a refusal too: zeros.
 #[derive(Clone, Copy)]
 pub struct PoweredUp {
-    pub refusal: u8,
+    pub refusal: Option<Refusal>,
     pub state: State,
 }
 
 // The state from which ticks begin. What it promises of them is what `tick` does.
 pub fn power_up(site: Site) -> PoweredUp
     ensures is { result ≡ power_up_of site }
-    ensures kept { result.refusal ≡ 0 → state_spoilt result.state (shape_of site) ≡ false }
+    ensures kept { result.refusal ≡ None → state_spoilt result.state (shape_of site) ≡ false }
     ensures waits { WaitingBound site }
     ensures clears { PreemptionClears site }
     ensures serves { BusServed site }
@@ -81,12 +83,12 @@ pub fn power_up(site: Site) -> PoweredUp
 {
     if site::spoilt(site) {
         return PoweredUp {
-            refusal: site::SPOILT_SITE,
+            refusal: Some(Refusal::SpoiltSite),
             state: state::zero(),
         };
     }
     PoweredUp {
-        refusal: 0,
+        refusal: None,
         state: state::fresh(site::shape_of(site).lanes),
     }
 }
@@ -95,44 +97,35 @@ pub fn power_up(site: Site) -> PoweredUp
 fn sample_bad(shape: Shape, input: Input) -> bool
     ensures { result ≡ sample_bad shape input }
 {
-    let lanes = input.lanes;
-    let main = input.main;
-    if inputs::samples_bad(lanes, main, shape.lanes, shape.mainline) {
-        return true;
-    }
-    let calls = input.calls;
-    inputs::calls_bad(calls)
+    inputs::samples_bad(input.lanes, input.main, shape) || inputs::calls_bad(input.calls)
 }
 
-// Which check refuses a tick's input, or 0.
-pub fn input_refusal(shape: Shape, input: Input) -> u8
+// Which check refuses a tick's input, if one does.
+pub fn input_refusal(shape: Shape, input: Input) -> Option<Refusal>
     ensures { result ≡ input_refusal shape input }
 {
-    let clock = input.clock;
-    if calendar::clock_bad(clock) {
-        return calendar::BAD_CLOCK;
+    if calendar::clock_bad(input.clock) {
+        return Some(Refusal::BadClock);
     }
     if sample_bad(shape, input) {
-        return inputs::BAD_SAMPLE;
+        return Some(Refusal::BadSample);
     }
-    let manual = input.manual;
-    let centre = input.centre;
-    if inputs::commands_bad(manual, centre) {
-        return inputs::BAD_COMMAND;
+    if inputs::commands_bad(input.manual, input.centre) {
+        return Some(Refusal::BadCommand);
     }
-    0
+    None
 }
 
-// Which check refuses a tick, or 0.
-fn refusal_of(site: Site, state: State, input: Input) -> u8
+// Which check refuses a tick, if one does.
+fn refusal_of(site: Site, state: State, input: Input) -> Option<Refusal>
     ensures { result ≡ tick_refusal site state input }
 {
     if site::spoilt(site) {
-        return site::SPOILT_SITE;
+        return Some(Refusal::SpoiltSite);
     }
     let shape = site::shape_of(site);
     if state::spoilt(state, shape) {
-        return state::SPOILT_STATE;
+        return Some(Refusal::SpoiltState);
     }
     input_refusal(shape, input)
 }
@@ -147,16 +140,12 @@ fn cycle_of(vehicles: u16, wish: Wish) -> u16
 
 // What a tick with an accepted input decides, once it is counted, and the cycle of its wish.
 pub fn decision_of(site: Site, input: Input, counted: Periods) -> DecidedTick
-    requires { (spoilt_site site ≡ false) × (input_refusal (shape_of site) input ≡ 0) }
+    requires { (spoilt_site site ≡ false) × (input_refusal (shape_of site) input ≡ None) }
     ensures { result ≡ decided_of site input counted }
 {
     let t = site::timings_of(site);
-    let clock = input.clock;
-    let manual = input.manual;
-    let centre = input.centre;
-    let decision = wanted::wanted_now(site, clock, manual, centre, counted);
-    let wish = decision.wish;
-    let cycle = cycle_of(t.vehicles, wish);
+    let decision = wanted::wanted_now(site, input.clock, input.manual, input.centre, counted);
+    let cycle = cycle_of(t.vehicles, decision.wish);
     DecidedTick { decision, cycle }
 }
 
@@ -171,67 +160,50 @@ pub fn finished(
     requires { (i : ℕ) → i < 4 → (get_or counted.current.greens i 0 ≤ 300) × (get_or counted.last.greens i 0 ≤ 300) }
     ensures { result ≡ finished_with t group input counted decided }
 {
-    let calls = input.calls;
-    let lanes = input.lanes;
-    let decision = decided.decision;
-    let wish = decision.wish;
-    let moved = group::tick(t, calls, wish, decided.cycle, lanes, group);
+    let wish = decided.decision.wish;
+    let moved = group::tick(t, input.calls, wish, decided.cycle, input.lanes, group);
     let after = moved.group;
-    let standing = after.lanes;
-    let bypass = after.bypass;
     Ticked {
-        refusal: 0, // no check refuses
+        refusal: None, // no check refuses
         state: State {
             group: after,
             periods: period::after_release(counted, moved.released),
         },
         shown: group::shown(after, t.lanes),
-        decision,
+        decision: decided.decision,
         cycle: decided.cycle,
         released: moved.released,
-        bypass: bypass::does(t, bypass, standing),
+        bypass: bypass::does(t, after.bypass, after.lanes),
     }
 }
 
 // A tick that no check refuses. The state stays in range, so that many ticks need one check of site and
 // state.
 fn advance(site: Site, state: State, input: Input) -> Ticked
-    requires { tick_refusal site state input ≡ 0 }
+    requires { tick_refusal site state input ≡ None }
     ensures is { result ≡ accepted_tick site state input }
     ensures kept { state_spoilt result.state (shape_of site) ≡ false }
 {
     let t = site::timings_of(site);
-    let lanes = input.lanes;
-    let main = input.main;
-    let periods = state.periods;
-    let counted = period::after_tick(periods, lanes, main, t.lanes, t.mainline);
+    let shape = site::shape_of(site);
+    let counted = period::after_tick(state.periods, input.lanes, input.main, shape);
     let decided = decision_of(site, input, counted);
-    let group = state.group;
-    finished(t, group, input, counted, decided)
+    finished(t, state.group, input, counted, decided)
 }
 
 // A tick that a check refuses: the state that came.
-fn refused(site: Site, state: State, refusal: u8) -> Ticked
+fn refused(site: Site, state: State, refusal: Refusal) -> Ticked
     ensures { result ≡ refused_tick site state refusal }
 {
-    let decision = wanted::no_decision();
-    if refusal < state::SPOILT_STATE {
-        let group = state.group;
-        return Ticked {
-            refusal,
-            state,
-            shown: group::shown(group, site::shape_of(site).lanes),
-            decision,
-            cycle: 0,
-            released: 0,
-            bypass: Doing::None,
-        };
-    }
+    let shown = match refusal {
+        Refusal::SpoiltState | Refusal::SpoiltSite => group::all_dark(),
+        _ => group::shown(state.group, site::shape_of(site).lanes),
+    };
     Ticked {
-        refusal,
+        refusal: Some(refusal),
         state,
-        shown: group::all_dark(),
-        decision,
+        shown,
+        decision: wanted::no_decision(),
         cycle: 0,
         released: 0,
         bypass: Doing::None,
@@ -243,21 +215,20 @@ fn refused(site: Site, state: State, refusal: u8) -> Ticked
 // timeout last, soon finds its lane green, which stays green until its bypass ends.
 pub fn tick(site: Site, state: State, input: Input) -> Ticked
     ensures is { result ≡ tick_of site state input }
-    ensures kept { result.refusal ≡ 0 → state_spoilt result.state (shape_of site) ≡ false }
-    ensures day { result.refusal ≡ 0 → Typed input.clock.date site.dates site.holidays result.decision.day }
-    ensures entry { result.refusal ≡ 0 → EntryInForce site input.clock result.decision.entry }
-    ensures levelled { result.refusal ≡ 0 → Levelled site (command_in_force site input.clock input.manual input.centre) (counted_in site state input) result.decision.level result.decision.wish }
-    ensures steered { result.refusal ≡ 0 → Steered (timings_of site) input.calls.preemption result.decision.wish state.group result.state.group.interval }
-    ensures cycled { result.refusal ≡ 0 → Cycled (timings_of site).vehicles result.decision.wish result.cycle }
-    ensures searched { result.refusal ≡ 0 → Searched (timings_of site) result.cycle input.lanes state.group (record { group = result.state.group; released = result.released }) }
-    ensures bypassed { result.refusal ≡ 0 → Bypassed (timings_of site) input.calls result.decision.wish result.cycle input.lanes state.group (record { group = result.state.group; released = result.released }) }
+    ensures kept { result.refusal ≡ None → state_spoilt result.state (shape_of site) ≡ false }
+    ensures day { result.refusal ≡ None → Typed input.clock.date site.dates site.holidays result.decision.day }
+    ensures entry { result.refusal ≡ None → EntryInForce site input.clock result.decision.entry }
+    ensures levelled { result.refusal ≡ None → Levelled site (command_in_force site input.clock input.manual input.centre) (counted_in site state input) result.decision.level result.decision.wish }
+    ensures steered { result.refusal ≡ None → Steered (timings_of site) input.calls.preemption result.decision.wish state.group result.state.group.interval }
+    ensures cycled { result.refusal ≡ None → Cycled (timings_of site).vehicles result.decision.wish result.cycle }
+    ensures searched { result.refusal ≡ None → Searched (timings_of site) result.cycle input.lanes state.group (record { group = result.state.group; released = result.released }) }
+    ensures bypassed { result.refusal ≡ None → Bypassed (timings_of site) input.calls result.decision.wish result.cycle input.lanes state.group (record { group = result.state.group; released = result.released }) }
     ensures waits { WaitingBound site }
     ensures clears { PreemptionClears site }
     ensures serves { BusServed site }
     ensures holds { BusHeld site }
 {
-    let refusal = refusal_of(site, state, input);
-    if refusal != 0 {
+    if let Some(refusal) = refusal_of(site, state, input) {
         return refused(site, state, refusal);
     }
     advance(site, state, input)

@@ -1,5 +1,6 @@
 -- Which number of a tick's input is out of range, in one line: `bad sample: metered lane 2, demand 2, allowed 0-1 (line 353)`.
-use Rattle.std.specs.Prelude.{ℕ, ◌≡◌, cond, List, [], ◌++◌}
+use Rattle.std.specs.Prelude.{ℕ, ◌≡◌, List, [], ◌++◌, Option, Some, None}
+use Rattle.refusals.specs.declared.Refusal.{Refusal}
 use Rattle.text.specs.Ascii.{ascii}
 use Rattle.text.specs.Decimal.{decimal}
 use Rattle.phrases.specs.Wrong.{opening_text, not_allowed_text}
@@ -23,11 +24,15 @@ unfoldable pub number_line : ℕ → Number → List ℕ
 number_line line x = opening_text (refusal_of x.part) ++ (out_of_range_text x ++ place_text line)
 
 -- That of the first number out of range. There is no text where none is.
+abbrev pub wrong_line : ℕ → Option Number → List ℕ
+wrong_line line None = []
+wrong_line line (Some x) = number_line line x
+
 unfoldable pub diagnosis_line : ℕ → Shape → Input → List ℕ
-diagnosis_line line h i = cond (first_bad h i).bad (number_line line (first_bad h i)) []
+diagnosis_line line h i = wrong_line line (first_bad h i)
 
 -- What a text says of the input on a line, whatever is wrong: nothing where the checks 8, 9 and 10 pass; else it begins with the trade word
 -- of the refusal that they give, and ends with the place.
 pub record Diagnosed (line : ℕ) (h : Shape) (i : Input) (text : List ℕ) : Type 0 where
-  pub silent : input_refusal h i ≡ 0 → text ≡ []
-  pub says : (input_refusal h i ≡ 0 → ⊥) → (wrong : List ℕ) × (text ≡ opening_text (input_refusal h i) ++ (wrong ++ place_text line))
+  pub silent : input_refusal h i ≡ None → text ≡ []
+  pub says : (refusal : Refusal) → input_refusal h i ≡ Some refusal → (wrong : List ℕ) × (text ≡ opening_text refusal ++ (wrong ++ place_text line))

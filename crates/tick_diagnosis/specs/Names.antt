@@ -3,17 +3,19 @@ use Rattle.std.specs.Prelude.{ℕ, ◌+◌, List, [], ◌++◌}
 use Rattle.text.specs.Ascii.{ascii}
 use Rattle.text.specs.Items.{item}
 use Rattle.phrases.specs.Phrases.{blank_and_decimal}
+use Rattle.refusals.specs.declared.Refusal.{Refusal}
+use Rattle.refusals.specs.declared.Refusal.TheVariants.{BadClock, BadSample, BadCommand}
 use Rattle.tick_diagnosis.specs.declared.number.Part.{Part}
 use Rattle.tick_diagnosis.specs.declared.number.Part.TheVariants.{TheClock, MeteredLane, MainlineLane, TheCalls, Manual, Communications}
 
 -- 8 bad clock, 9 bad sample, 10 bad command.
-abbrev pub refusal_of : Part → ℕ
-refusal_of TheClock = 8
-refusal_of (MeteredLane i) = 9
-refusal_of (MainlineLane j) = 9
-refusal_of TheCalls = 9
-refusal_of Manual = 10
-refusal_of Communications = 10
+abbrev pub refusal_of : Part → Refusal
+refusal_of TheClock = BadClock
+refusal_of (MeteredLane i) = BadSample
+refusal_of (MainlineLane j) = BadSample
+refusal_of TheCalls = BadSample
+refusal_of Manual = BadCommand
+refusal_of Communications = BadCommand
 
 -- A lane, counted from 1: `metered lane 2, `.
 unfoldable pub lane_text : List ℕ → ℕ → List ℕ

@@ -1,5 +1,6 @@
 -- The numbers of a tick's input with their ranges, in the order of the tick's row, and the first that is out of range.
-use Rattle.std.specs.Prelude.{ℕ, zero, suc, ◌+◌, ◌-◌, cond, not}
+use Rattle.std.specs.Prelude.{ℕ, zero, suc, ◌+◌, ◌-◌, cond, Option, Some, None}
+use Rattle.std.specs.Option.{option_or}
 use Rattle.numbers.specs.declared.Range.{Range}
 use Rattle.numbers.specs.Within.{is_within}
 use Rattle.ranges.specs.Ranges.{rate_range, table_range}
@@ -18,63 +19,59 @@ use Rattle.tick_diagnosis.specs.declared.number.Part.{Part}
 use Rattle.tick_diagnosis.specs.declared.number.Part.TheVariants.{TheClock, MeteredLane, MainlineLane, TheCalls, Manual, Communications}
 use Rattle.tick_diagnosis.specs.declared.number.Number.{Number}
 
--- Number x, in this column of its part, and whether it is out of its range.
-unfoldable pub number_of : Part → ℕ → ℕ → Range → Number
-number_of part column x g = record { part = part; column = column; value = x; low = g.low; high = g.high; bad = not (is_within g x) }
-
--- A number if it is out of range, else what follows.
-unfoldable pub first_of : Number → Number → Number
-first_of a rest = cond a.bad a rest
+-- Number x, in this column of its part, if it is out of its range.
+unfoldable pub number_of : Part → ℕ → ℕ → Range → Option Number
+number_of part column x g = cond (is_within g x) None (Some (record { part = part; column = column; value = x; low = g.low; high = g.high }))
 
 -- The first of the next k from i on that is out of range, else what follows.
-abbrev pub first_from : (ℕ → Number) → ℕ → ℕ → Number → Number
+abbrev pub first_from : (ℕ → Option Number) → ℕ → ℕ → Option Number → Option Number
 first_from f i zero rest = rest
-first_from f i (suc k) rest = first_of (f i) (first_from f (i + 1) k rest)
+first_from f i (suc k) rest = option_or (f i) (first_from f (i + 1) k rest)
 
--- Of a part's numbers the first that is out of range; where none is, the last. The clock: year, month, day, tenth.
-unfoldable pub in_clock : Clock → Number
+-- Of a part's numbers the first that is out of range, if one is. The clock: year, month, day, tenth.
+unfoldable pub in_clock : Clock → Option Number
 in_clock c =
-    first_of (number_of TheClock 0 c.date.year years)
-    (first_of (number_of TheClock 1 c.date.month months)
-    (first_of (number_of TheClock 2 c.date.day (days_of c.date.year c.date.month))
+    option_or (number_of TheClock 0 c.date.year years)
+    (option_or (number_of TheClock 1 c.date.month months)
+    (option_or (number_of TheClock 2 c.date.day (days_of c.date.year c.date.month))
     (number_of TheClock 3 c.tenth tenths)))
 
 -- A metered lane: demand, passage.
-unfoldable pub in_metered : ℕ → MeteredSample → Number
-in_metered i s = first_of (number_of (MeteredLane i) 0 s.demand flags) (number_of (MeteredLane i) 1 s.passage flags)
+unfoldable pub in_metered : ℕ → MeteredSample → Option Number
+in_metered i s = option_or (number_of (MeteredLane i) 0 s.demand flags) (number_of (MeteredLane i) 1 s.passage flags)
 
 -- A mainline lane: working, occupied, vehicles, time.
-unfoldable pub in_mainline : ℕ → LaneSample → Number
+unfoldable pub in_mainline : ℕ → LaneSample → Option Number
 in_mainline j s =
-    first_of (number_of (MainlineLane j) 0 s.working flags)
-    (first_of (number_of (MainlineLane j) 1 s.occupied occupancies)
-    (first_of (number_of (MainlineLane j) 2 s.vehicles flags)
+    option_or (number_of (MainlineLane j) 0 s.working flags)
+    (option_or (number_of (MainlineLane j) 1 s.occupied occupancies)
+    (option_or (number_of (MainlineLane j) 2 s.vehicles flags)
     (number_of (MainlineLane j) 3 s.time times)))
 
 -- The calls: preemption, bypass.
-unfoldable pub in_calls : Calls → Number
-in_calls calls = first_of (number_of TheCalls 0 calls.preemption flags) (number_of TheCalls 1 calls.bypass flags)
+unfoldable pub in_calls : Calls → Option Number
+in_calls calls = option_or (number_of TheCalls 0 calls.preemption flags) (number_of TheCalls 1 calls.bypass flags)
 
 -- A command's kinds 1 to 4 are an entry's modes 0 to 3. Kind 0 has neither rate nor table, as mode 0 has none.
 unfoldable pub mode_of : ℕ → ℕ
 mode_of kind = kind - 1
 
 -- A command: kind, rate, table.
-unfoldable pub in_command : Part → Command → Number
+unfoldable pub in_command : Part → Command → Option Number
 in_command part c =
-    first_of (number_of part 0 c.kind kinds)
-    (first_of (number_of part 1 c.rate (rate_range (mode_of c.kind)))
+    option_or (number_of part 0 c.kind kinds)
+    (option_or (number_of part 1 c.rate (rate_range (mode_of c.kind)))
     (number_of part 2 c.table (table_range (mode_of c.kind))))
 
 -- The metered lanes' numbers, and the mainline lanes', lane by lane; else what follows.
-unfoldable pub in_lanes : Shape → Input → Number → Number
+unfoldable pub in_lanes : Shape → Input → Option Number → Option Number
 in_lanes h i rest =
     first_from (λ k. in_metered k (metered_sample_of i.lanes k)) 0 h.lanes
     (first_from (λ k. in_mainline k (lane_sample_of i.main k)) 0 h.mainline rest)
 
--- The first that is out of range of all the input's numbers; where none is, the last of them.
-unfoldable pub first_bad : Shape → Input → Number
+-- The first that is out of range of all the input's numbers, if one is.
+unfoldable pub first_bad : Shape → Input → Option Number
 first_bad h i =
-    first_of (in_clock i.clock)
+    option_or (in_clock i.clock)
     (in_lanes h i
-    (first_of (in_calls i.calls) (first_of (in_command Manual i.manual) (in_command Communications i.centre))))
+    (option_or (in_calls i.calls) (option_or (in_command Manual i.manual) (in_command Communications i.centre))))

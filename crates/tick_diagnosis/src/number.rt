@@ -1,8 +1,9 @@
 // The numbers of a tick's input with their ranges, and the first that is out of range.
-ghost use Rattle.std.specs.Prelude.{◌≡◌, not};
+ghost use Rattle.std.specs.Prelude.{◌≡◌, ◌<◌, not, ℕ, Option};
 ghost use Rattle.numbers.specs.Within.{between, is_within};
 ghost use Rattle.inputs.specs.Samples.{metered_sample_of, lane_sample_of};
-ghost use Rattle.tick_diagnosis.specs.Numbers.{number_of, first_of, first_from, in_clock, in_metered, in_mainline, in_calls, mode_of, in_command, in_lanes, first_bad};
+ghost use Rattle.tick_diagnosis.specs.declared.number.Number.{Number};
+ghost use Rattle.tick_diagnosis.specs.Numbers.{number_of, first_from, in_clock, in_metered, in_mainline, in_calls, mode_of, in_command, in_lanes, first_bad};
 
 use calendar::Clock;
 use inputs::{Calls, Command, LaneSample, Mainline, Metered, MeteredSample};
@@ -21,7 +22,7 @@ pub enum Part {
     Communications,
 }
 
-// A number in a column of its part, its range, both ends included, and whether it is out of range.
+// A number out of range: its part, its column there, and its range, both ends included.
 #[derive(Clone, Copy)]
 pub struct Number {
     pub part: Part,
@@ -29,7 +30,6 @@ pub struct Number {
     pub value: u64,
     pub low: u64,
     pub high: u64,
-    pub bad: bool,
 }
 
 // 0 or 1.
@@ -54,45 +54,34 @@ const KINDS: Range = Range {
 fn outside(x: u64, low: u64, high: u64) -> bool
     ensures { result ≡ not (is_within (between low high) x) }
 {
-    if x < low {
-        return true;
-    }
-    if high < x {
-        return true;
-    }
-    false
+    x < low || high < x
 }
 
-// A number with its range. The tenth of the day takes more than two bytes.
-fn long_number(part: Part, column: usize, x: u64, low: u64, high: u64) -> Number
+// A number, if it is out of its range. The tenth of the day takes more than two bytes.
+fn long_number(part: Part, column: usize, x: u64, low: u64, high: u64) -> Option<Number>
     ensures { result ≡ number_of part column x (between low high) }
 {
-    Number {
-        part,
-        column,
-        value: x,
-        low,
-        high,
-        bad: outside(x, low, high),
+    if outside(x, low, high) {
+        return Some(Number {
+            part,
+            column,
+            value: x,
+            low,
+            high,
+        });
     }
+    None
 }
 
 // The same of two bytes.
-fn number_of(part: Part, column: usize, x: u16, range: Range) -> Number
+fn number_of(part: Part, column: usize, x: u16, range: Range) -> Option<Number>
     ensures { result ≡ number_of part column x range }
 {
     long_number(part, column, x as u64, range.low as u64, range.high as u64)
 }
 
-// A number if it is out of range, else what follows.
-fn first(a: Number, rest: Number) -> Number
-    ensures { result ≡ first_of a rest }
-{
-    if a.bad { a } else { rest }
-}
-
-// Of a part's numbers the first that is out of range; where none is, the last.
-fn in_clock(clock: Clock) -> Number
+// Of a part's numbers the first that is out of range, if one is.
+fn in_clock(clock: Clock) -> Option<Number>
     ensures { result ≡ in_clock clock }
 {
     let date = clock.date;
@@ -102,33 +91,33 @@ fn in_clock(clock: Clock) -> Number
     let day = number_of(Part::TheClock, 2, date.day, days);
     let last = calendar::LAST_TENTH as u64;
     let tenth = long_number(Part::TheClock, 3, clock.tenth as u64, 0, last);
-    first(year, first(month, first(day, tenth)))
+    year.or(month.or(day.or(tenth)))
 }
 
-fn in_metered(i: u16, s: MeteredSample) -> Number
+fn in_metered(i: u16, s: MeteredSample) -> Option<Number>
     ensures { result ≡ in_metered i s }
 {
     let demand = number_of(Part::MeteredLane(i), 0, s.demand, FLAGS);
     let passage = number_of(Part::MeteredLane(i), 1, s.passage, FLAGS);
-    first(demand, passage)
+    demand.or(passage)
 }
 
-fn in_mainline(j: u16, s: LaneSample) -> Number
+fn in_mainline(j: u16, s: LaneSample) -> Option<Number>
     ensures { result ≡ in_mainline j s }
 {
     let working = number_of(Part::MainlineLane(j), 0, s.working, FLAGS);
     let occupied = number_of(Part::MainlineLane(j), 1, s.occupied, OCCUPANCIES);
     let vehicles = number_of(Part::MainlineLane(j), 2, s.vehicles, FLAGS);
     let time = number_of(Part::MainlineLane(j), 3, s.time, TIMES);
-    first(working, first(occupied, first(vehicles, time)))
+    working.or(occupied.or(vehicles.or(time)))
 }
 
-fn in_calls(calls: Calls) -> Number
+fn in_calls(calls: Calls) -> Option<Number>
     ensures { result ≡ in_calls calls }
 {
     let preemption = number_of(Part::TheCalls, 0, calls.preemption, FLAGS);
     let bypass = number_of(Part::TheCalls, 1, calls.bypass, FLAGS);
-    first(preemption, bypass)
+    preemption.or(bypass)
 }
 
 // An entry's mode of a command's kind.
@@ -138,67 +127,55 @@ fn mode_of(kind: u16) -> u16
     if kind == inputs::NONE { 0 } else { kind - 1 }
 }
 
-fn in_command(part: Part, c: Command) -> Number
+fn in_command(part: Part, c: Command) -> Option<Number>
     ensures { result ≡ in_command part c }
 {
     let mode = mode_of(c.kind);
     let kind = number_of(part, 0, c.kind, KINDS);
     let rate = number_of(part, 1, c.rate, ranges::rate_range(mode));
     let table = number_of(part, 2, c.table, ranges::table_range(mode));
-    first(kind, first(rate, table))
+    kind.or(rate.or(table))
 }
 
-// The first out of range of the first n metered lanes' numbers, else what follows.
-fn in_metered_lanes(s: Metered, n: u16, rest: Number) -> Number
+// The first out of range of the first n lanes' numbers, where `lane` says which number of a lane is
+// that, else what follows.
+fn first_from<F: Fn(u16) -> Option<Number>>(lane: F, n: u16, rest: Option<Number>) -> Option<Number>
+    requires { F.IsAlwaysCallable lane }
+    ensures { (f : ℕ → Option Number) → ((i : ℕ) (x : Option Number) → i < n → F.post lane i x → x ≡ f i) → result ≡ first_from f 0 n rest }
+{
+    for i in 0..n {
+        if let Some(x) = lane(i) {
+            return Some(x);
+        }
+    }
+    rest
+}
+
+fn in_metered_lanes(s: Metered, n: u16, rest: Option<Number>) -> Option<Number>
     ensures { result ≡ first_from (λ k. in_metered k (metered_sample_of s k)) 0 n rest }
 {
-    let mut i: u16 = 0;
-    while i < n {
-        let x = in_metered(i, inputs::metered_sample(s, i));
-        if x.bad {
-            return x;
-        }
-        i += 1;
-    }
-    rest
+    first_from(|i| in_metered(i, inputs::metered_sample(s, i)), n, rest)
 }
 
-// The first out of range of the first m mainline lanes' numbers, else what follows.
-fn in_mainline_lanes(s: Mainline, m: u16, rest: Number) -> Number
+fn in_mainline_lanes(s: Mainline, m: u16, rest: Option<Number>) -> Option<Number>
     ensures { result ≡ first_from (λ k. in_mainline k (lane_sample_of s k)) 0 m rest }
 {
-    let mut j: u16 = 0;
-    while j < m {
-        let x = in_mainline(j, inputs::lane_sample(s, j));
-        if x.bad {
-            return x;
-        }
-        j += 1;
-    }
-    rest
+    first_from(|j| in_mainline(j, inputs::lane_sample(s, j)), m, rest)
 }
 
-fn in_lanes(shape: Shape, input: Input, rest: Number) -> Number
+fn in_lanes(shape: Shape, input: Input, rest: Option<Number>) -> Option<Number>
     ensures { result ≡ in_lanes shape input rest }
 {
-    let lanes = input.lanes;
-    let main = input.main;
-    let behind = in_mainline_lanes(main, shape.mainline, rest);
-    in_metered_lanes(lanes, shape.lanes, behind)
+    let behind = in_mainline_lanes(input.main, shape.mainline, rest);
+    in_metered_lanes(input.lanes, shape.lanes, behind)
 }
 
-// The first that is out of range of all the input's numbers; where none is, the last of them.
-pub fn first_bad(shape: Shape, input: Input) -> Number
+// The first that is out of range of all the input's numbers, if one is.
+pub fn first_bad(shape: Shape, input: Input) -> Option<Number>
     ensures { result ≡ first_bad shape input }
 {
-    let clock = input.clock;
-    let calls = input.calls;
-    let manual = input.manual;
-    let centre = input.centre;
-    let commands = first(
-        in_command(Part::Manual, manual),
-        in_command(Part::Communications, centre),
-    );
-    let behind = first(in_calls(calls), commands);
-    first(in_clock(clock), in_lanes(shape, input, behind))
+    let manual = in_command(Part::Manual, input.manual);
+    let commands = manual.or(in_command(Part::Communications, input.centre));
+    let behind = in_calls(input.calls).or(commands);
+    in_clock(input.clock).or(in_lanes(shape, input, behind))
 }

@@ -7,6 +7,7 @@ ghost use Rattle.tick_line.specs.Words.{line_read};
 use crate::scan;
 use crate::scan::{Scan, Stage};
 use tick::Input;
+use timings::Shape;
 
 // Whether a line is a tick, and if not, why: how many numbers it has and how many are wanted; or
 // which word is no number, above its most, or empty.
@@ -19,7 +20,8 @@ pub enum Verdict {
     Empty(u64),
 }
 
-// The verdict, and the line's tick; zeros where it is none.
+// The verdict, and the line's tick; zeros where it is none. Both stand side by side in each line's
+// answer, by replay_lines/specs/Replay.antt, so that this is no Result.
 #[derive(Clone, Copy)]
 pub struct ReadLine {
     pub verdict: Verdict,
@@ -27,10 +29,10 @@ pub struct ReadLine {
 }
 
 // How many numbers a line has: the tenth is one, and two of a row.
-fn words_wanted(n: u16, m: u16) -> u64
-    ensures { result ≡ words_wanted n m }
+fn words_wanted(shape: Shape) -> u64
+    ensures { result ≡ words_wanted shape.lanes shape.mainline }
 {
-    (tick_row::row_size(n, m) - 1) as u64
+    (tick_row::row_size(shape) - 1) as u64
 }
 
 fn counted(words: u64, wanted: u64) -> Verdict
@@ -61,38 +63,38 @@ pub fn is_tick(verdict: Verdict) -> bool
 {
     match verdict {
         Verdict::Tick => true,
-        Verdict::Count(_, _) => false,
-        Verdict::NoNumber(_) => false,
-        Verdict::Above(_) => false,
-        Verdict::Empty(_) => false,
+        _ => false,
     }
 }
 
-// The tick of a line's numbers at a site of n metered and m mainline lanes.
-fn tick_read(s: Scan, n: u16, m: u16) -> ReadLine
-    ensures { result ≡ tick_read s n m }
+// The tick of a line's numbers at a site of this shape.
+fn tick_read(s: Scan, shape: Shape) -> ReadLine
+    ensures { result ≡ tick_read s shape.lanes shape.mainline }
 {
-    let stage = s.stage;
-    let verdict = verdict_of(stage, s.words, words_wanted(n, m));
+    let verdict = verdict_of(s.stage, s.words, words_wanted(shape));
     if is_tick(verdict) {
-        let row = s.row;
         return ReadLine {
             verdict,
-            input: tick_row::input_of(&row, n, m),
+            input: tick_row::input_of(&s.row, shape),
         };
     }
     let row = [0u16; tick_row::LONGEST_ROW];
+    let none = Shape {
+        lanes: 0,
+        mainline: 0,
+        priority: 0,
+    };
     ReadLine {
         verdict,
-        input: tick_row::input_of(&row, 0, 0),
+        input: tick_row::input_of(&row, none),
     }
 }
 
-// What is read of a line that ends here, at a site of n metered and m mainline lanes: of any line
-// whose bytes led here, shorter than 2^64, what its words say.
-pub fn read(s: Scan, n: u16, m: u16) -> ReadLine
-    ensures is { result ≡ tick_read (closed s) n m }
-    ensures words { (line : List ℕ) → length line < 2 ^ 64 → s ≡ scanned line line_start → result ≡ line_read line n m }
+// What is read of a line that ends here, at a site of this shape: of any line whose bytes led here,
+// shorter than 2^64, what its words say.
+pub fn read(s: Scan, shape: Shape) -> ReadLine
+    ensures is { result ≡ tick_read (closed s) shape.lanes shape.mainline }
+    ensures words { (line : List ℕ) → length line < 2 ^ 64 → s ≡ scanned line line_start → result ≡ line_read line shape.lanes shape.mainline }
 {
-    tick_read(scan::closed(s), n, m)
+    tick_read(scan::closed(s), shape)
 }

@@ -70,13 +70,10 @@ pub fn line_start() -> Scan
 fn in_stage(s: Scan, stage: Stage) -> Scan
     ensures { result ≡ in_stage s stage }
 {
-    let row = s.row;
     Scan {
         stage,
         returned: false,
-        value: s.value,
-        words: s.words,
-        row,
+        ..s
     }
 }
 
@@ -85,24 +82,19 @@ fn in_number(stage: Stage) -> bool
 {
     match stage {
         Stage::Number => true,
-        Stage::Between => false,
-        Stage::Blanks => false,
-        Stage::NoNumber => false,
-        Stage::Above => false,
-        Stage::Empty => false,
+        _ => false,
     }
 }
+
+// What a byte does to a stage: those that it leaves as they are stand together.
 
 fn after_digit(stage: Stage) -> Stage
     ensures { result ≡ after_digit stage }
 {
     match stage {
         Stage::Between => Stage::Number,
-        Stage::Number => Stage::Number,
         Stage::Blanks => Stage::Empty,
-        Stage::Empty => Stage::Empty,
-        Stage::NoNumber => Stage::NoNumber,
-        Stage::Above => Stage::Above,
+        _ => stage,
     }
 }
 
@@ -111,11 +103,7 @@ fn after_blank(stage: Stage) -> Stage
 {
     match stage {
         Stage::Between => Stage::Blanks,
-        Stage::Blanks => Stage::Blanks,
-        Stage::Number => Stage::Number,
-        Stage::NoNumber => Stage::NoNumber,
-        Stage::Above => Stage::Above,
-        Stage::Empty => Stage::Empty,
+        _ => stage,
     }
 }
 
@@ -123,12 +111,9 @@ fn after_other(stage: Stage) -> Stage
     ensures { result ≡ after_other stage }
 {
     match stage {
-        Stage::Between => Stage::NoNumber,
-        Stage::Number => Stage::NoNumber,
-        Stage::NoNumber => Stage::NoNumber,
+        Stage::Between | Stage::Number => Stage::NoNumber,
         Stage::Blanks => Stage::Empty,
-        Stage::Empty => Stage::Empty,
-        Stage::Above => Stage::Above,
+        _ => stage,
     }
 }
 
@@ -173,14 +158,11 @@ fn with_number(
 fn with_digit(s: Scan, digit: u8) -> Scan
     ensures { result ≡ with_digit s digit }
 {
-    let stage = s.stage;
-    let row = s.row;
     Scan {
-        stage: after_digit(stage),
+        stage: after_digit(s.stage),
         returned: false,
         value: word_value::grown(s.value, digit),
-        words: s.words,
-        row,
+        ..s
     }
 }
 
@@ -192,37 +174,30 @@ fn ended(s: Scan) -> Scan
     if most_of(word) < s.value {
         return in_stage(s, Stage::Above);
     }
-    let row = s.row;
     Scan {
         stage: Stage::Between,
         returned: false,
         value: 0,
         words: word,
-        row: with_number(row, s.words, s.value),
+        row: with_number(s.row, s.words, s.value),
     }
 }
 
 fn with_blank(s: Scan) -> Scan
     ensures { result ≡ with_blank s }
 {
-    let stage = s.stage;
-    if in_number(stage) {
+    if in_number(s.stage) {
         return ended(s);
     }
-    in_stage(s, after_blank(stage))
+    in_stage(s, after_blank(s.stage))
 }
 
 fn with_return(s: Scan) -> Scan
     ensures { result ≡ with_return s }
 {
-    let stage = s.stage;
-    let row = s.row;
     Scan {
-        stage,
         returned: true,
-        value: s.value,
-        words: s.words,
-        row,
+        ..s
     }
 }
 
@@ -230,8 +205,7 @@ fn with_return(s: Scan) -> Scan
 fn with_other(s: Scan) -> Scan
     ensures { result ≡ with_other s }
 {
-    let stage = s.stage;
-    in_stage(s, after_other(stage))
+    in_stage(s, after_other(s.stage))
 }
 
 // A byte that follows no carriage return.
@@ -267,8 +241,7 @@ pub fn after_byte(s: Scan, b: u8) -> Scan
 pub fn closed(s: Scan) -> Scan
     ensures { result ≡ closed s }
 {
-    let stage = s.stage;
-    if in_number(stage) {
+    if in_number(s.stage) {
         return ended(s);
     }
     s

@@ -1,17 +1,12 @@
 // Document 02's tick record: a tick in two-byte numbers, in five sections each behind its count.
 #![tactic(auto)]
 
-ghost use Rattle.std.specs.Prelude.{◌≡◌, ◌+◌, ◌*◌, ◌≤◌, ◌<◌, length, get_or};
+ghost use Rattle.std.specs.Prelude.{◌≡◌, ◌+◌, ◌*◌, ◌<◌, length, get_or};
 ghost use Rattle.numbers.specs.Words.{words};
-ghost use Rattle.tick_row.specs.Row.{clock_of, of_lane, metered_of, mainline_of, calls_of, command_of};
 ghost use Rattle.tick_record.specs.Record.{record_size, mainline_count, calls_count, commands_count, counts_right, is_record, record_input};
 
-use calendar::{Clock, Date};
-use inputs::{Calls, Command, LaneSample, Mainline, Metered, MeteredSample};
 use tick::Input;
-
-// A record is cut short or has a wrong count.
-pub const BAD_RECORD: u8 = 15;
+use timings::Shape;
 
 // The counts that are the same at every site: of the clock's numbers, the calls and the commands.
 const CLOCK_NUMBERS: u16 = 5;
@@ -41,30 +36,30 @@ fn mainline_count(n: u16) -> usize
     METERED + 1 + METERED_WIDTH * (n as usize)
 }
 
-fn calls_count(n: u16, m: u16) -> usize
-    ensures { result ≡ calls_count n m }
+fn calls_count(shape: Shape) -> usize
+    ensures { result ≡ calls_count shape.lanes shape.mainline }
 {
-    mainline_count(n) + 1 + MAINLINE_WIDTH * (m as usize)
+    mainline_count(shape.lanes) + 1 + MAINLINE_WIDTH * (shape.mainline as usize)
 }
 
-fn commands_count(n: u16, m: u16) -> usize
-    ensures { result ≡ commands_count n m }
+fn commands_count(shape: Shape) -> usize
+    ensures { result ≡ commands_count shape.lanes shape.mainline }
 {
-    calls_count(n, m) + 1 + CALLS_WIDTH
+    calls_count(shape) + 1 + CALLS_WIDTH
 }
 
-// How many numbers the record of n metered and m mainline lanes has.
-fn count(n: u16, m: u16) -> usize
-    ensures { result * 2 ≡ record_size n m }
+// How many numbers the record at a site of this shape has.
+fn count(shape: Shape) -> usize
+    ensures { result * 2 ≡ record_size shape.lanes shape.mainline }
 {
-    commands_count(n, m) + 1 + 2 * COMMAND_WIDTH
+    commands_count(shape) + 1 + 2 * COMMAND_WIDTH
 }
 
 // How many bytes it has.
-pub fn size(n: u16, m: u16) -> usize
-    ensures { result ≡ record_size n m }
+pub fn size(shape: Shape) -> usize
+    ensures { result ≡ record_size shape.lanes shape.mainline }
 {
-    count(n, m) * 2
+    count(shape) * 2
 }
 
 // The i-th number of a record. The caller has seen that it has as many.
@@ -78,160 +73,45 @@ fn word_at(bytes: &[u8], i: usize) -> u16
 }
 
 // Whether each count among a record's numbers is what it should be.
-fn counts_right(bytes: &[u8], n: u16, m: u16) -> bool
-    requires { length bytes.now ≡ record_size n m }
-    ensures { result ≡ counts_right (words bytes.now) n m }
+fn counts_right(bytes: &[u8], shape: Shape) -> bool
+    requires { length bytes.now ≡ record_size shape.lanes shape.mainline }
+    ensures { result ≡ counts_right (words bytes.now) shape.lanes shape.mainline }
 {
     let clock = word_at(bytes, CLOCK);
     let metered = word_at(bytes, METERED);
-    let mainline = word_at(bytes, mainline_count(n));
-    let calls = word_at(bytes, calls_count(n, m));
-    let commands = word_at(bytes, commands_count(n, m));
+    let mainline = word_at(bytes, mainline_count(shape.lanes));
+    let calls = word_at(bytes, calls_count(shape));
+    let commands = word_at(bytes, commands_count(shape));
     (clock == CLOCK_NUMBERS)
-        & ((metered == n) & ((mainline == m) & ((calls == CALLS) & (commands == COMMANDS))))
+        & ((metered == shape.lanes)
+            & ((mainline == shape.mainline) & ((calls == CALLS) & (commands == COMMANDS))))
 }
 
-// Whether bytes are a record, at a site of n metered and m mainline lanes.
-pub fn is_record(bytes: &[u8], n: u16, m: u16) -> bool
-    ensures { result ≡ is_record bytes.now n m }
+// Whether bytes are a record, at a site of this shape.
+pub fn is_record(bytes: &[u8], shape: Shape) -> bool
+    ensures { result ≡ is_record bytes.now shape.lanes shape.mainline }
 {
-    if bytes.len() != size(n, m) {
+    if bytes.len() != size(shape) {
         return false;
     }
-    counts_right(bytes, n, m)
-}
-
-fn clock_of(bytes: &[u8]) -> Clock
-    requires { 12 ≤ length bytes.now }
-    ensures { result ≡ clock_of (words bytes.now) 1 }
-{
-    let high = word_at(bytes, 4);
-    let low = word_at(bytes, 5);
-    Clock {
-        date: Date {
-            year: word_at(bytes, 1),
-            month: word_at(bytes, 2),
-            day: word_at(bytes, 3),
-        },
-        tenth: tick_row::long_of(high, low),
-    }
-}
-
-// Metered lane i's samples, from number p on; all 0 where there is no such lane.
-fn metered_at(bytes: &[u8], n: u16, i: u16, p: usize) -> MeteredSample
-    requires { (p ≤ 1000) × (i < n → (p + 2) * 2 ≤ length bytes.now) }
-    ensures demand { result.demand ≡ of_lane (words bytes.now) n i p }
-    ensures passage { result.passage ≡ of_lane (words bytes.now) n i (p + 1) }
-{
-    if n <= i {
-        return MeteredSample {
-            demand: 0,
-            passage: 0,
-        };
-    }
-    MeteredSample {
-        demand: word_at(bytes, p),
-        passage: word_at(bytes, p + 1),
-    }
-}
-
-fn metered_of(bytes: &[u8], n: u16) -> Metered
-    requires { (7 + 2 * n) * 2 ≤ length bytes.now }
-    ensures { result ≡ metered_of (words bytes.now) n 7 }
-{
-    let a = metered_at(bytes, n, 0, 7);
-    let b = metered_at(bytes, n, 1, 9);
-    let c = metered_at(bytes, n, 2, 11);
-    let d = metered_at(bytes, n, 3, 13);
-    Metered {
-        demand: [a.demand, b.demand, c.demand, d.demand],
-        passage: [a.passage, b.passage, c.passage, d.passage],
-    }
-}
-
-// Mainline lane j's samples, from number p on; all 0 where there is no such lane.
-fn lane_at(bytes: &[u8], m: u16, j: u16, p: usize) -> LaneSample
-    requires { (p ≤ 1000000) × (j < m → (p + 4) * 2 ≤ length bytes.now) }
-    ensures working { result.working ≡ of_lane (words bytes.now) m j p }
-    ensures occupied { result.occupied ≡ of_lane (words bytes.now) m j (p + 1) }
-    ensures vehicles { result.vehicles ≡ of_lane (words bytes.now) m j (p + 2) }
-    ensures time { result.time ≡ of_lane (words bytes.now) m j (p + 3) }
-{
-    if m <= j {
-        return LaneSample {
-            working: 0,
-            occupied: 0,
-            vehicles: 0,
-            time: 0,
-        };
-    }
-    LaneSample {
-        working: word_at(bytes, p),
-        occupied: word_at(bytes, p + 1),
-        vehicles: word_at(bytes, p + 2),
-        time: word_at(bytes, p + 3),
-    }
-}
-
-fn mainline_of(bytes: &[u8], m: u16, p: usize) -> Mainline
-    requires { (p ≤ 900000) × ((p + 4 * m) * 2 ≤ length bytes.now) }
-    ensures { result ≡ mainline_of (words bytes.now) m p }
-{
-    let a = lane_at(bytes, m, 0, p);
-    let b = lane_at(bytes, m, 1, p + 4);
-    let c = lane_at(bytes, m, 2, p + 8);
-    let d = lane_at(bytes, m, 3, p + 12);
-    let e = lane_at(bytes, m, 4, p + 16);
-    let f = lane_at(bytes, m, 5, p + 20);
-    Mainline {
-        working: [
-            a.working, b.working, c.working, d.working, e.working, f.working,
-        ],
-        occupied: [
-            a.occupied, b.occupied, c.occupied, d.occupied, e.occupied, f.occupied,
-        ],
-        vehicles: [
-            a.vehicles, b.vehicles, c.vehicles, d.vehicles, e.vehicles, f.vehicles,
-        ],
-        time: [a.time, b.time, c.time, d.time, e.time, f.time],
-    }
-}
-
-fn calls_of(bytes: &[u8], p: usize) -> Calls
-    requires { (p ≤ 1000000) × ((p + 2) * 2 ≤ length bytes.now) }
-    ensures { result ≡ calls_of (words bytes.now) p }
-{
-    Calls {
-        preemption: word_at(bytes, p),
-        bypass: word_at(bytes, p + 1),
-    }
-}
-
-fn command_of(bytes: &[u8], p: usize) -> Command
-    requires { (p ≤ 1000000) × ((p + 3) * 2 ≤ length bytes.now) }
-    ensures { result ≡ command_of (words bytes.now) p }
-{
-    Command {
-        kind: word_at(bytes, p),
-        rate: word_at(bytes, p + 1),
-        table: word_at(bytes, p + 2),
-    }
+    counts_right(bytes, shape)
 }
 
 // The tick of a record. The caller has seen that it is one.
-pub fn input_of(bytes: &[u8], n: u16, m: u16) -> Input
-    requires { length bytes.now ≡ record_size n m }
-    ensures { result ≡ record_input bytes.now n m }
+pub fn input_of(bytes: &[u8], shape: Shape) -> Input
+    requires { length bytes.now ≡ record_size shape.lanes shape.mainline }
+    ensures { result ≡ record_input bytes.now shape.lanes shape.mainline }
 {
-    let main = mainline_count(n);
-    let calls = calls_count(n, m);
-    let commands = commands_count(n, m);
+    let main = mainline_count(shape.lanes);
+    let calls = calls_count(shape);
+    let commands = commands_count(shape);
+    let number = |i: usize| word_at(bytes, i);
     Input {
-        clock: clock_of(bytes),
-        lanes: metered_of(bytes, n),
-        main: mainline_of(bytes, m, main + 1),
-        calls: calls_of(bytes, calls + 1),
-        manual: command_of(bytes, commands + 1),
-        centre: command_of(bytes, commands + 1 + COMMAND_WIDTH),
+        clock: tick_row::clock_of(&number, CLOCK + 1),
+        lanes: tick_row::metered_of(&number, shape.lanes, METERED + 1),
+        main: tick_row::mainline_of(&number, shape.mainline, main + 1),
+        calls: tick_row::calls_of(&number, calls + 1),
+        manual: tick_row::command_of(&number, commands + 1),
+        centre: tick_row::command_of(&number, commands + 1 + COMMAND_WIDTH),
     }
 }

@@ -4,7 +4,11 @@ use mathlib.Core.Path.{◌≡◌, refl}
 use mathlib.Core.Bool.{Bool, true, false}
 use mathlib.Core.List.{List}
 use native.Mathlib.Omega.{arith}
-use lib.Dec.{eqb}
+use Rattle.std.specs.Prelude.{Option, Some, None}
+use Rattle.std.specs.Option.{is_some}
+use Rattle.refusals.specs.declared.Refusal.{Refusal}
+use Rattle.refusals.specs.declared.Refusal.TheVariants.{ShortFile, WrongCount, BadTiming, BadEntry, BadHoliday, BadLevel, LongFile, BadClock, BadSample, BadCommand, SmallBuffer, NoPeriod, SpoiltState, SpoiltSite, BadRecord, BadApproach, TooManyEntries, BadNumber}
+use Rattle.refusals.specs.Numbers.{number_of}
 use lib.ListN.{length, length-append, length-take}
 use mir.Val.{Val}
 use denote.Laws.{Is}
@@ -22,7 +26,7 @@ use Rattle.bypass.specs.declared.Doing.TheVariants.{None, Waits, Runs}
 use Rattle.tick.specs.declared.Ticked.{Ticked}
 use Rattle.tick_text.specs.Lamps.{lamps_text}
 use Rattle.tick_text.specs.Decided.{source_text, wish_text, ruling_text, wished_text, decision_text, bypass_text, accepted_text, decided_text}
-use Rattle.tick_text.specs.Lines.{interval_text, tick_line, longest_tick}
+use Rattle.tick_text.specs.Lines.{refusal_number, interval_text, tick_line, longest_tick}
 
 -- A wish that the machine holds has a rate that it holds.
 pub rate_word : (w : Wish) (vs : List Val) → Is (a-wish.the_field).row ((a-wish.the_field).into w) vs → rate_of w < 2 ^ 64
@@ -34,7 +38,6 @@ rate_word Clear vs g = omega arith
 -- The numbers of a line are numbers of the machine.
 pub record Sized (k : ℕ) (t : Ticked) : Type 0 where
   pub number : k < 2 ^ 64
-  pub refusal : t.refusal < 2 ^ 64
   pub interval : t.state.group.interval < 2 ^ 64
   pub age : t.state.group.age < 2 ^ 64
   pub sign : t.shown.sign < 2 ^ 64
@@ -43,6 +46,32 @@ pub record Sized (k : ℕ) (t : Ticked) : Type 0 where
   pub rate : rate_of t.decision.wish < 2 ^ 64
   pub cycle : t.cycle < 2 ^ 64
   pub released : t.released < 2 ^ 64
+
+-- A refusal's number has two digits at the most.
+number_most : (r : Refusal) → number_of r < 2 ^ 64
+unfolding number_of
+number_most ShortFile = omega arith
+number_most WrongCount = omega arith
+number_most BadTiming = omega arith
+number_most BadEntry = omega arith
+number_most BadHoliday = omega arith
+number_most BadLevel = omega arith
+number_most LongFile = omega arith
+number_most BadClock = omega arith
+number_most BadSample = omega arith
+number_most BadCommand = omega arith
+number_most SmallBuffer = omega arith
+number_most NoPeriod = omega arith
+number_most SpoiltState = omega arith
+number_most SpoiltSite = omega arith
+number_most BadRecord = omega arith
+number_most BadApproach = omega arith
+number_most TooManyEntries = omega arith
+number_most BadNumber = omega arith
+
+refusal_most : (r : Option Refusal) → refusal_number r < 2 ^ 64
+refusal_most None = omega arith
+refusal_most (Some r) = number_most r
 
 source_most : (s : Source) → length (source_text s) ≤ 7
 source_most Manual = omega arith
@@ -68,7 +97,7 @@ module _ (k : ℕ) (t : Ticked) (z : Sized k t) where
   interval_most : length (interval_text t) ≤ 63
   unfolding interval_text
   interval_most =
-      let a = decimal_word t.refusal z.refusal in
+      let a = decimal_word (refusal_number t.refusal) (refusal_most t.refusal) in
       let b = decimal_word t.state.group.interval z.interval in
       let c = decimal_word t.state.group.age z.age in
       simp length-append (omega arith)
@@ -99,10 +128,10 @@ module _ (k : ℕ) (t : Ticked) (z : Sized k t) where
       let e = bypass_most t.bypass in
       simp length-append (omega arith)
 
-  decided_case : (b : Bool) → eqb t.refusal 0 ≡ b → length (decided_text t) ≤ 128
+  decided_case : (b : Bool) → is_some t.refusal ≡ b → length (decided_text t) ≤ 128
   unfolding decided_text
-  decided_case true e = rw e accepted_most
-  decided_case false e = rw e (omega arith)
+  decided_case true e = rw e (omega arith)
+  decided_case false e = rw e accepted_most
 
   pub tick_most : (n : ℕ) → length (tick_line k n t) ≤ longest_tick
   unfolding tick_line

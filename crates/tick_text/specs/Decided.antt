@@ -1,5 +1,6 @@
 -- What was decided, in a tick's line.
-use Rattle.std.specs.Prelude.{ℕ, cond, List, ◌++◌, eqb}
+use Rattle.std.specs.Prelude.{ℕ, cond, List, ◌++◌}
+use Rattle.std.specs.Option.{is_some}
 use Rattle.text.specs.Ascii.{ascii}
 use Rattle.phrases.specs.Phrases.{day_name, blank_and_decimal}
 use Rattle.wanted.specs.declared.wish.Wish.{Wish}
@@ -48,4 +49,4 @@ accepted_text t = decision_text t.decision ++ (blank_and_decimal t.cycle ++ (bla
 
 -- Of a refused one nine times `-`.
 unfoldable pub decided_text : Ticked → List ℕ
-decided_text t = cond (eqb t.refusal 0) (accepted_text t) (ascii " - - - - - - - - -")
+decided_text t = cond (is_some t.refusal) (ascii " - - - - - - - - -") (accepted_text t)

@@ -1,5 +1,7 @@
 -- The lines that the replay program prints.
-use Rattle.std.specs.Prelude.{ℕ, ◌+◌, ◌/◌, ◌%◌, cond, List, [], ◌∷◌, ◌++◌, ltb}
+use Rattle.std.specs.Prelude.{ℕ, ◌+◌, ◌/◌, ◌%◌, cond, List, [], ◌∷◌, ◌++◌, ltb, Option, Some, None}
+use Rattle.refusals.specs.declared.Refusal.{Refusal}
+use Rattle.refusals.specs.Numbers.{number_of}
 use Rattle.text.specs.Ascii.{ascii}
 use Rattle.text.specs.Decimal.{decimal}
 use Rattle.phrases.specs.Phrases.{blank_and_decimal}
@@ -10,9 +12,14 @@ use Rattle.tick_text.specs.Decided.{decided_text}
 unfoldable pub heading_line : List ℕ
 heading_line = ascii "tick refusal interval age lanes lower sign day entry source level wish rate cycle released bypass\n"
 
+-- The number of a refusal; 0 of none.
+abbrev pub refusal_number : Option Refusal → ℕ
+refusal_number None = 0
+refusal_number (Some refusal) = number_of refusal
+
 -- The refusal, 0 when accepted; the interval and its age after the tick.
 unfoldable pub interval_text : Ticked → List ℕ
-interval_text t = blank_and_decimal t.refusal ++ (blank_and_decimal t.state.group.interval ++ blank_and_decimal t.state.group.age)
+interval_text t = blank_and_decimal (refusal_number t.refusal) ++ (blank_and_decimal t.state.group.interval ++ blank_and_decimal t.state.group.age)
 
 -- A tick's line, of n lanes: the tick's number from 1, and what the tick gave.
 unfoldable pub tick_line : ℕ → ℕ → Ticked → List ℕ

@@ -7,15 +7,12 @@ use std::rt::Files;
 // explains that on a file for errors. A file that cannot be read, or that the user named and that is
 // absent, is reported on standard error, and nothing is printed.
 pub fn run(rt: &(impl Files + Print), name: &[u8], named: bool, errors: i32) {
-    let mut file = [0u8; site_reader::FRONT];
-    let input = file_input::read_file(rt, name, named, &mut file);
-    if input.failed {
-        return;
-    }
-    let n = input.count;
-    let mut text = [0u8; listing::LONGEST_TEXT];
-    let count = listing::print_whole(&file[..n], &mut text);
-    if site_program::write_out(rt, &text[..count]) {
-        site_program::explain(errors, name, &file[..n]);
+    let mut buffer = [0u8; site_reader::FRONT];
+    if let Some(file) = file_input::read_file(rt, name, named, &mut buffer) {
+        let mut text = [0u8; listing::LONGEST_TEXT];
+        let count = listing::print_whole(file, &mut text);
+        if site_program::write_out(rt, &text[..count]) {
+            site_program::explain(errors, name, file);
+        }
     }
 }

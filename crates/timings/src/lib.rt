@@ -32,8 +32,8 @@ pub struct Timings {
     pub timeout: u16,
 }
 
-// What a state must fit: how many metered and mainline lanes there are, and the lane of the bus
-// bypass, 0 for none.
+// What a state and a tick's samples must fit: how many metered and mainline lanes there are, and the
+// lane of the bus bypass, 0 for none.
 #[derive(Clone, Copy)]
 pub struct Shape {
     pub lanes: u16,

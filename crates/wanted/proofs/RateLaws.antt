@@ -5,6 +5,7 @@ use mathlib.Core.Bool.{Bool, true, false, cond}
 use native.Mathlib.Omega.{arith}
 use borrow.Author.Tests.{ltb-false, eqb-true, eqb-false}
 use lib.Dec.{ltb, eqb}
+use Rattle.std.specs.Prelude.{Option, Some, None}
 use Rattle.loops.proofs.AnyLaws.{neither}
 use Rattle.site.specs.declared.Site.{Site}
 use Rattle.site.specs.Record.{spoilt_site}
@@ -16,8 +17,7 @@ use Rattle.inputs.specs.Commands.{command_bad, commands_bad}
 use Rattle.inputs.proofs.CommandLaws.{command_rate}
 use Rattle.plan.specs.Entry.{entry_of}
 use Rattle.period.specs.declared.Periods.{Periods}
-use Rattle.levels.specs.declared.measure.Measured.{Measured}
-use Rattle.levels.specs.declared.measure.Measured.TheVariants.{NoGoodLane, Over}
+use Rattle.levels.specs.declared.measure.Measures.{Measures}
 use Rattle.levels.specs.Measures.{measured_of}
 use Rattle.levels.specs.Levels.{level_of, deciding_of}
 use Rattle.levels.proofs.DecidingLaws.{deciding_in}
@@ -83,9 +83,9 @@ module _ (x : Site) (ok : spoilt_site x ≡ false) where
       (λ e. tt)
       (λ e. level_rate x ok (place - 1) (omega (arith, eqb-false place 0 e)))
 
-  measured_good : (c : Command) (q : Measured) → (150 ≤ c.rate) × (c.rate ≤ 1800) → ChoiceGood (measured_choice c x.tables x.levels q)
-  measured_good c NoGoodLane g = g
-  measured_good c (Over q) g = level_good (deciding_of x.tables x.levels c.table q) (deciding_in x.tables c.table q x.levels)
+  measured_good : (c : Command) (q : Option Measures) → (150 ≤ c.rate) × (c.rate ≤ 1800) → ChoiceGood (measured_choice c x.tables x.levels q)
+  measured_good c None g = g
+  measured_good c (Some q) g = level_good (deciding_of x.tables x.levels c.table q) (deciding_in x.tables c.table q x.levels)
 
   module _ (m : ℕ) (p : Periods) where
     responsive_good : (c : Command) → (150 ≤ c.rate) × (c.rate ≤ 1800) → ChoiceGood (responsive_choice c x.tables x.levels m p)

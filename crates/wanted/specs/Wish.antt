@@ -1,10 +1,9 @@
 -- Document 01, 'What is wanted'.
-use Rattle.std.specs.Prelude.{ℕ, ◌+◌, ◌-◌, cond, List, ltb, eqb}
+use Rattle.std.specs.Prelude.{ℕ, ◌+◌, ◌-◌, cond, List, ltb, eqb, Option, Some, None}
 use Rattle.inputs.specs.declared.Command.{Command}
 use Rattle.plan.specs.Entry.{entry_of}
 use Rattle.period.specs.declared.Periods.{Periods}
-use Rattle.levels.specs.declared.measure.Measured.{Measured}
-use Rattle.levels.specs.declared.measure.Measured.TheVariants.{NoGoodLane, Over}
+use Rattle.levels.specs.declared.measure.Measures.{Measures}
 use Rattle.levels.specs.Measures.{measured_of}
 use Rattle.levels.specs.Levels.{level_of, deciding_of}
 use Rattle.wanted.specs.declared.wish.Wish.{Wish}
@@ -48,9 +47,9 @@ unfoldable pub level_choice : List ℕ → ℕ → Choice
 level_choice rows place = cond (eqb place 0) (choice 0 Clear) (choice place (Metering (level_of rows (place - 1)).rate))
 
 -- "No good lane: metering at the command's or entry's rate." Otherwise the levels.
-abbrev pub measured_choice : Command → List ℕ → ℕ → Measured → Choice
-measured_choice c rows count NoGoodLane = choice 0 (Metering c.rate)
-measured_choice c rows count (Over q) = level_choice rows (deciding_of rows count c.table q)
+abbrev pub measured_choice : Command → List ℕ → ℕ → Option Measures → Choice
+measured_choice c rows count None = choice 0 (Metering c.rate)
+measured_choice c rows count (Some q) = level_choice rows (deciding_of rows count c.table q)
 
 -- "A responsive one looks at the last completed period. No period: clear."
 unfoldable pub responsive_choice : Command → List ℕ → ℕ → ℕ → Periods → Choice

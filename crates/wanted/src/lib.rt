@@ -9,6 +9,7 @@ ghost use Rattle.wanted.specs.Decision.{day_of, entry_in_force, decision_of, no_
 
 use calendar::Clock;
 use inputs::Command;
+use numbers::Rows;
 use period::Periods;
 use plan::DayAndEntry;
 use site::Site;
@@ -44,15 +45,16 @@ fn day_and_entry(site: Site, clock: Clock) -> DayAndEntry
     ensures day { result.day ≡ day_of site clock }
     ensures entry { result.entry ≡ entry_in_force site clock }
 {
-    let plan = site.plan;
-    let dates = site.dates;
-    let date = clock.date;
     plan::day_and_entry(
-        &plan,
-        site.entries,
-        &dates,
-        site.holidays,
-        date,
+        Rows {
+            numbers: &site.plan,
+            count: site.entries,
+        },
+        Rows {
+            numbers: &site.dates,
+            count: site.holidays,
+        },
+        clock.date,
         (clock.tenth / TENTHS_OF_A_MINUTE) as u16,
     )
 }
@@ -69,20 +71,21 @@ pub fn wanted_now(
     ensures { result ≡ decision_of site clock manual centre p }
 {
     let today = day_and_entry(site, clock);
-    let entry = today.entry;
-    let plan = site.plan;
     let source = wish::source_of(manual, centre);
-    let command = wish::ruling(source, manual, centre, wish::planned(&plan, entry));
-    let tables = site.tables;
+    let planned = wish::planned(&site.plan, today.entry);
+    let command = wish::ruling(source, manual, centre, planned);
     let shape = site::shape_of(site);
-    let choice = wish::chosen(command, &tables, site.levels, shape.mainline, p);
-    let wish = choice.wish;
+    let levels = Rows {
+        numbers: &site.tables,
+        count: site.levels,
+    };
+    let choice = wish::chosen(command, levels, shape.mainline, p);
     Decision {
         day: today.day,
-        entry,
+        entry: today.entry,
         source,
         level: choice.level,
-        wish,
+        wish: choice.wish,
     }
 }
 

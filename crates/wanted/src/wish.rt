@@ -3,7 +3,8 @@ ghost use Rattle.std.specs.Prelude.{◌≡◌};
 ghost use Rattle.wanted.specs.Wish.{kind_of, planned_of, ruling_of, source_of, level_choice, measured_choice, responsive_choice, choice_of};
 
 use inputs::Command;
-use levels::Measured;
+use levels::Measures;
+use numbers::Rows;
 use period::Periods;
 
 // What is wanted of the group.
@@ -101,20 +102,20 @@ fn level_choice(rows: &[u16], place: u16) -> Choice
     }
 }
 
-fn measured_choice(c: Command, rows: &[u16], count: u16, measured: Measured) -> Choice
-    ensures { result ≡ measured_choice c rows.now count measured }
+fn measured_choice(c: Command, levels: Rows, measured: Option<Measures>) -> Choice
+    ensures { result ≡ measured_choice c levels.entry.numbers.now levels.entry.count measured }
 {
     match measured {
-        Measured::NoGoodLane => Choice {
+        None => Choice {
             level: 0,
             wish: Wish::Metering(c.rate),
         },
-        Measured::Over(q) => level_choice(rows, levels::deciding(rows, count, c.table, q)),
+        Some(q) => level_choice(levels.numbers, levels::deciding(levels, c.table, q)),
     }
 }
 
-fn responsive_choice(c: Command, rows: &[u16], count: u16, m: u16, p: Periods) -> Choice
-    ensures { result ≡ responsive_choice c rows.now count m p }
+fn responsive_choice(c: Command, levels: Rows, m: u16, p: Periods) -> Choice
+    ensures { result ≡ responsive_choice c levels.entry.numbers.now levels.entry.count m p }
 {
     if p.serial == 0 {
         return Choice {
@@ -122,13 +123,12 @@ fn responsive_choice(c: Command, rows: &[u16], count: u16, m: u16, p: Periods) -
             wish: Wish::Clear,
         };
     }
-    let last = p.last;
-    measured_choice(c, rows, count, levels::measured_on(last, m))
+    measured_choice(c, levels, levels::measured_on(p.last, m))
 }
 
 // What a command wishes at a site with these levels and m mainline lanes.
-pub fn chosen(c: Command, rows: &[u16], count: u16, m: u16, p: Periods) -> Choice
-    ensures { result ≡ choice_of c rows.now count m p }
+pub fn chosen(c: Command, levels: Rows, m: u16, p: Periods) -> Choice
+    ensures { result ≡ choice_of c levels.entry.numbers.now levels.entry.count m p }
 {
     if c.kind == inputs::GREEN {
         return Choice {
@@ -143,7 +143,7 @@ pub fn chosen(c: Command, rows: &[u16], count: u16, m: u16, p: Periods) -> Choic
         };
     }
     if c.kind == inputs::RESPONSIVE {
-        return responsive_choice(c, rows, count, m, p);
+        return responsive_choice(c, levels, m, p);
     }
     Choice {
         level: 0,

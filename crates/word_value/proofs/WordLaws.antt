@@ -5,10 +5,11 @@ use mathlib.Core.Bool.{Bool, true, false}
 use mathlib.Core.List.{List, [], ◌∷◌}
 use native.Mathlib.Omega.{arith}
 use borrow.Author.Tests.{lt-ltb, le-ltb, eq-eqb, ne_eqb}
+use Rattle.std.specs.Prelude.{IfSome, Ok, Err}
 use lib.ListN.{length, get_or, take, drop}
 use lib.Seq.{take_all}
 use Rattle.loops.proofs.Cases.{by_test}
-use Rattle.word_value.specs.declared.signed.Word.TheVariants.{Empty, TooLong, Number}
+use Rattle.word_value.specs.declared.signed.BadWord.TheVariants.{Empty, TooLong}
 use Rattle.word_value.specs.Digits.{is_number, value_of, kept, digits_read}
 use Rattle.word_value.specs.Signed.{of_size, signed_read, word_read, kept_number, kept_word, of_digits}
 
@@ -17,9 +18,9 @@ pub rest : (word : List ℕ) → take (length word - 1) (drop 1 word) ≡ drop 1
 rest [] = refl
 rest (b ∷ word) = take_all (suc (length word) - 1) word (omega arith)
 
-pub value_kept : (word : List ℕ) → (digits_read word).value ≤ 4294967296
+pub value_kept : (word : List ℕ) → IfSome (digits_read word) (λ size. size ≤ 4294967296)
 unfolding digits_read
-value_kept word = by_test (is_number word) (λ e. rw e (omega arith)) (λ e. rw e (omega arith))
+value_kept word = by_test (is_number word) (λ e. rw e (omega arith)) (λ e. rw e tt)
 
 kept_size : (negative : Bool) (n : ℕ) → of_size negative (kept n) ≡ kept_number (of_size negative n)
 kept_size false n = refl
@@ -27,17 +28,17 @@ kept_size true zero = refl
 kept_size true (suc n) = refl
 
 pub from_digits : (negative : Bool) (word : List ℕ) → of_digits negative (digits_read word) ≡ kept_word (signed_read negative word)
-unfolding of_digits digits_read signed_read
+unfolding digits_read signed_read
 from_digits negative word =
-    by_test (is_number word) (λ e. rw e (ap Number (kept_size negative (value_of word)))) (λ e. rw e refl)
+    by_test (is_number word) (λ e. rw e (ap Ok (kept_size negative (value_of word)))) (λ e. rw e refl)
 
 -- A word of no byte, of too many, behind a minus sign, behind a plus sign, and behind no sign.
-pub of_none : (word : List ℕ) → length word ≡ 0 → word_read word ≡ Empty
+pub of_none : (word : List ℕ) → length word ≡ 0 → word_read word ≡ Err Empty
 unfolding word_read
 of_none [] h = refl
 of_none (b ∷ word) h = absurd (omega (arith, h))
 
-pub of_many : (word : List ℕ) → 4096 < length word → word_read word ≡ TooLong
+pub of_many : (word : List ℕ) → 4096 < length word → word_read word ≡ Err TooLong
 unfolding word_read
 of_many [] h = absurd (omega (arith, h))
 of_many (b ∷ word) h = rw (lt-ltb 4096 (length (b ∷ word)) h)

@@ -1,6 +1,5 @@
 -- A word of digits, and its value.
-use Rattle.std.specs.Prelude.{ℕ, ◌+◌, ◌*◌, ◌-◌, min, Bool, true, false, cond, not, ◌&&◌, List, [], ◌∷◌, leb}
-use Rattle.word_value.specs.declared.digits.Digits.{Digits}
+use Rattle.std.specs.Prelude.{ℕ, ◌+◌, ◌*◌, ◌-◌, min, Bool, true, false, cond, not, ◌&&◌, List, [], ◌∷◌, leb, Option, Some, None}
 
 -- A word is empty where it has no byte.
 abbrev pub is_empty : List ℕ → Bool
@@ -37,6 +36,6 @@ kept value = min value 4294967296
 unfoldable pub grown : ℕ → ℕ → ℕ
 grown value digit = kept (value * 10 + digit)
 
--- Whether a word is a number, and what is kept of its value.
-unfoldable pub digits_read : List ℕ → Digits
-digits_read word = cond (is_number word) (record { number = true; value = kept (value_of word) }) (record { number = false; value = 0 })
+-- What is kept of a word's value, if the word is a number.
+unfoldable pub digits_read : List ℕ → Option ℕ
+digits_read word = cond (is_number word) (Some (kept (value_of word))) None

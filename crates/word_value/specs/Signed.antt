@@ -1,9 +1,12 @@
 -- What a word says as a number that may have a sign: `40`, `+40`, `-80`.
-use Rattle.std.specs.Prelude.{ℕ, Bool, true, false, cond, List, [], ◌∷◌, ltb, eqb, ℤ, pos, neg_ℤ, nat_abs, negsuc, length}
-use Rattle.word_value.specs.declared.digits.Digits.{Digits}
-use Rattle.word_value.specs.declared.signed.Word.{Word}
-use Rattle.word_value.specs.declared.signed.Word.TheVariants.{Empty, TooLong, NoNumber, Number}
+use Rattle.std.specs.Prelude.{ℕ, Bool, true, false, cond, List, [], ◌∷◌, ltb, eqb, ℤ, pos, neg_ℤ, nat_abs, negsuc, length, Option, Some, None, Result, Ok, Err}
+use Rattle.word_value.specs.declared.signed.BadWord.{BadWord}
+use Rattle.word_value.specs.declared.signed.BadWord.TheVariants.{Empty, TooLong, NoNumber}
 use Rattle.word_value.specs.Digits.{is_number, value_of, kept}
+
+-- What a word says: a number, or why it is none.
+abbrev pub Word : Type 0
+Word = Result ℤ BadWord
 
 -- The number of a size that is below 0 or not.
 abbrev pub of_size : Bool → ℕ → ℤ
@@ -11,7 +14,7 @@ of_size negative size = cond negative (neg_ℤ (pos size)) (pos size)
 
 -- What stands behind the sign is a number's size.
 unfoldable pub signed_read : Bool → List ℕ → Word
-signed_read negative word = cond (is_number word) (Number (of_size negative (value_of word))) NoNumber
+signed_read negative word = cond (is_number word) (Ok (of_size negative (value_of word))) (Err NoNumber)
 
 -- The most bytes of a word that is read.
 abbrev pub longest_word : ℕ
@@ -19,10 +22,10 @@ longest_word = 4096
 
 -- A minus sign is 45, a plus sign 43.
 unfoldable pub word_read : List ℕ → Word
-word_read [] = Empty
+word_read [] = Err Empty
 word_read (b ∷ word) =
     cond (ltb longest_word (length (b ∷ word)))
-    TooLong
+    (Err TooLong)
     (cond (eqb b 45)
     (signed_read true word)
     (cond (eqb b 43)
@@ -35,11 +38,10 @@ kept_number (pos n) = pos (kept n)
 kept_number (negsuc n) = neg_ℤ (pos (kept (nat_abs (negsuc n))))
 
 abbrev pub kept_word : Word → Word
-kept_word Empty = Empty
-kept_word TooLong = TooLong
-kept_word NoNumber = NoNumber
-kept_word (Number z) = Number (kept_number z)
+kept_word (Ok z) = Ok (kept_number z)
+kept_word (Err e) = Err e
 
 -- What a word says, from what is kept of its digits.
-unfoldable pub of_digits : Bool → Digits → Word
-of_digits negative digits = cond digits.number (Number (of_size negative digits.value)) NoNumber
+abbrev pub of_digits : Bool → Option ℕ → Word
+of_digits negative None = Err NoNumber
+of_digits negative (Some size) = Ok (of_size negative size)

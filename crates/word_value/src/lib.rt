@@ -5,4 +5,4 @@ mod digits;
 mod signed;
 
 pub use digits::grown;
-pub use signed::{LONGEST_WORD, Word, read};
+pub use signed::{BadWord, LONGEST_WORD, read};

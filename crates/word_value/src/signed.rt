@@ -1,44 +1,43 @@
 // A word with a sign or none, and digits behind it.
-ghost use Rattle.std.specs.Prelude.{◌≡◌, ◌≤◌};
+ghost use Rattle.std.specs.Prelude.{◌≡◌, ◌≤◌, IfSome};
 ghost use Rattle.word_value.specs.Signed.{of_digits, kept_word, word_read};
 
 use crate::digits;
-use crate::digits::Digits;
 
-#[derive(Clone, Copy)]
-pub enum Word {
+// Why a word says no number.
+#[derive(Clone, Copy, PartialEq, Eq)]
+pub enum BadWord {
     Empty,
     TooLong,
     NoNumber,
-    Number(i64),
 }
 
 // The most bytes of a word that is read.
 pub const LONGEST_WORD: usize = 4096;
 
-fn of_digits(negative: bool, digits: Digits) -> Word
-    requires { digits.value ≤ 4294967296 }
+fn of_digits(negative: bool, digits: Option<u64>) -> Result<i64, BadWord>
+    requires { IfSome digits (λ size. size ≤ 4294967296) }
     ensures { result ≡ of_digits negative digits }
 {
-    if !digits.number {
-        return Word::NoNumber;
+    match digits {
+        None => Err(BadWord::NoNumber),
+        Some(size) => Ok(if negative {
+            0 - size as i64
+        } else {
+            size as i64
+        }),
     }
-    let size = digits.value as i64;
-    if negative {
-        return Word::Number(0 - size);
-    }
-    Word::Number(size)
 }
 
 // What a word says; a size above 4294967296 counts as that.
-pub fn read(word: &[u8]) -> Word
+pub fn read(word: &[u8]) -> Result<i64, BadWord>
     ensures { result ≡ kept_word (word_read word.now) }
 {
-    if word.len() == 0 {
-        return Word::Empty;
+    if word.is_empty() {
+        return Err(BadWord::Empty);
     }
     if LONGEST_WORD < word.len() {
-        return Word::TooLong;
+        return Err(BadWord::TooLong);
     }
     let first = word[0];
     if first == b'-' {

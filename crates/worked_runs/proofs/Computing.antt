@@ -3,7 +3,7 @@ use Rattle.worked_runs.specs.Run.{state_after, answer_at, releases_from, release
 use Rattle.worked_runs.specs.Bus.{is_calling, waits_as_it_begins}
 use Rattle.tick.specs.Checks.{sample_bad, input_refusal, tick_refusal}
 use Rattle.site.specs.Named.{timings_of}
-use Rattle.tick.specs.Tick.{power_up_of, counted_in, decided_in, cycle_in, moved_in, accepted_tick, refused_tick, tick_of}
+use Rattle.tick.specs.Tick.{power_up_of, counted_in, decided_in, cycle_in, moved_in, accepted_tick, shown_after, refused_tick, tick_by, tick_of}
 use Rattle.waiting.specs.Bound.{turn_ticks, waiting_bound}
 use Rattle.preemption.specs.Clearing.{clearing_ticks}
 use Rattle.serving.specs.Serving.{others_ticks, serving_ticks}
@@ -49,10 +49,10 @@ use Rattle.site.specs.Reading.{section_of, read_of}
 use Rattle.site.specs.Writing.{words_of}
 use Rattle.calendar.specs.Days.{in_month, today_of, yesterday_of}
 use Rattle.calendar.specs.Holidays.{is_floating, in_week, day_type_of, is_named, is_fixed, is_moving}
-use Rattle.levels.specs.Measures.{totals_of, measures_of}
+use Rattle.levels.specs.Measures.{totals_of, speed_over, measures_of}
 use Rattle.levels.specs.Levels.{reaches_of, is_slow, is_met}
 
 -- To unfold this is to unfold what its line names.
 unfoldable pub computing : Unit {0}
-unfolding clearing_ticks clears is_pre_metering is_held steered_wish ordinary_interval sample_bad calls_bad is_waiting is_waiting_but waits_as_it_begins is_calling others_ticks serving_ticks begins_bypass is_served waiting_bound turn_ticks at_power_up answer_to is_accepted onward green_begins all_dark to_nearest cycle_ticks rounded_up day_type_of is_date days_before month_length day_number weekday_of in_month today_of last_of day_before yesterday_of is_floating in_week is_fixed is_moving is_named measures_of totals_of good_of is_met reaches_of is_slow words_of read_of section_of is_good range_of timing_range is_within state_after answer_at releases_from releases input_refusal tick_refusal timings_of power_up_of counted_in decided_in cycle_in moved_in accepted_tick refused_tick tick_of state_spoilt fresh_state all_red interval_of bypass_in lanes_in released_in group_of lanes_moved moved_with moved_of colour_shown lower_shown sign_shown lane_shown indications_of age_of time_of successor_of next_interval colour_spoilt lane_spoilt lane_kept lane_spoilt_at lanes_spoilt group_spoilt rise_of passages_of green_ends green_at yellow_at lane_tick lane_of lanes_of ending_of lane_tick_at lanes_tick lane_entered lanes_entered later_of is_time_up begins_at ends_at kept_of mark_of timer_of bypass_of place_of priority_of has_passed endings_of other_not_red others_red has_been_red released_for doing_of bypass_spoilt offset_ticks is_ready ready_at any_green may_release next_of released_of green_if release_of travel_time slower_of after_vehicle time_at speeds_timed last_measured speeds_closed spoilt_at lane_speeds_spoilt speeds_spoilt speed_spoilt eq timed_of lane_counted lane_counted_at passages_at counted_of next_serial closed_of after_tick greens_at green_counted after_release no_periods countsLaneSpoilt countsLaneKept countsLaneSpoiltAt metered_spoilt metered_kept metered_spoilt_at counts_spoilt last_ticks periods_spoilt day_of on_day applies takes_over in_force_of in_force_now entry_in_force entry_range day_or_week_range weekday_range move_range holiday_range level_range command_in_force decision_of planned_of source_of choice_of metered_bad lane_bad samples_bad carries_nothing command_bad commands_bad clock_bad spoilt_of spoilt_site rate_range table_range
+unfolding clearing_ticks clears is_pre_metering is_held steered_wish ordinary_interval sample_bad calls_bad is_waiting is_waiting_but waits_as_it_begins is_calling others_ticks serving_ticks begins_bypass is_served waiting_bound turn_ticks at_power_up answer_to is_accepted onward green_begins all_dark to_nearest cycle_ticks rounded_up day_type_of is_date days_before month_length day_number weekday_of in_month today_of last_of day_before yesterday_of is_floating in_week is_fixed is_moving is_named measures_of speed_over totals_of good_of is_met reaches_of is_slow words_of read_of section_of is_good range_of timing_range is_within state_after answer_at releases_from releases input_refusal tick_refusal timings_of power_up_of counted_in decided_in cycle_in moved_in accepted_tick shown_after refused_tick tick_by tick_of state_spoilt fresh_state all_red interval_of bypass_in lanes_in released_in group_of lanes_moved moved_with moved_of colour_shown lower_shown sign_shown lane_shown indications_of age_of time_of successor_of next_interval colour_spoilt lane_spoilt lane_kept lane_spoilt_at lanes_spoilt group_spoilt rise_of passages_of green_ends green_at yellow_at lane_tick lane_of lanes_of ending_of lane_tick_at lanes_tick lane_entered lanes_entered later_of is_time_up begins_at ends_at kept_of mark_of timer_of bypass_of place_of priority_of has_passed endings_of other_not_red others_red has_been_red released_for doing_of bypass_spoilt offset_ticks is_ready ready_at any_green may_release next_of released_of green_if release_of travel_time slower_of after_vehicle time_at speeds_timed last_measured speeds_closed spoilt_at lane_speeds_spoilt speeds_spoilt speed_spoilt eq timed_of lane_counted lane_counted_at passages_at counted_of next_serial closed_of after_tick greens_at green_counted after_release no_periods countsLaneSpoilt countsLaneKept countsLaneSpoiltAt metered_spoilt metered_kept metered_spoilt_at counts_spoilt last_ticks periods_spoilt day_of on_day applies takes_over in_force_of in_force_now entry_in_force entry_range day_or_week_range weekday_range move_range holiday_range level_range command_in_force decision_of planned_of source_of choice_of metered_bad lane_bad samples_bad carries_nothing command_bad commands_bad clock_bad spoilt_of spoilt_site rate_range table_range
 computing = tt

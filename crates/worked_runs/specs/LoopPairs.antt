@@ -1,5 +1,5 @@
 -- Document 02, A8: speeds from travel times, a level's threshold, readings, and what may be kept. One proof, `loop_pairs`, shows it all.
-use Rattle.std.specs.Prelude.{◌≡◌, true, false, pos, negsuc}
+use Rattle.std.specs.Prelude.{◌≡◌, true, false, pos, negsuc, Some, None}
 use Rattle.std.specs.Float.{nan, inf, fin, binary64}
 use Rattle.std.specs.Float.Ieee.{of_bits}
 use Rattle.speed.specs.Speed.{whole, speed_of, no_speed, least_speed, most_speed, speed_spoilt}
@@ -14,12 +14,12 @@ pub record LoopPairs : Type 0 where
   pub fastest : speed_of 1 1 ≡ most_speed
   pub together : speed_of 2 732 ≡ whole 60
   -- A threshold of 60 is met at 366 ms and a millisecond more, and not at a millisecond less, 60.16 km/h, which rounded down would meet it.
-  pub at_threshold : is_slow 60 true (speed_of 1 366) ≡ true
-  pub slower : is_slow 60 true (speed_of 1 367) ≡ true
-  pub faster : is_slow 60 true (speed_of 1 365) ≡ false
+  pub at_threshold : is_slow 60 (Some (speed_of 1 366)) ≡ true
+  pub slower : is_slow 60 (Some (speed_of 1 367)) ≡ true
+  pub faster : is_slow 60 (Some (speed_of 1 365)) ≡ false
   -- It is not met where no speed is known, or where it is not in use.
-  pub unknown : is_slow 60 false (speed_of 1 366) ≡ false
-  pub not_in_use : is_slow 65535 true (speed_of 1 366) ≡ false
+  pub unknown : is_slow 60 None ≡ false
+  pub not_in_use : is_slow 65535 (Some (speed_of 1 366)) ≡ false
   -- A reading: measured, whatever was before; carried over; absent.
   pub measured : reading_of 1 366 (whole 40) ≡ Measured (whole 60)
   pub carried : reading_of 0 0 (whole 40) ≡ Carried (whole 40)

@@ -1,11 +1,12 @@
 -- Document 02, A6: holidays that move from their Sunday to the next day, in the answers of a tick that is the first since power-up; and
 -- the site file that has their fifth number, or has not. Three proofs, `moved_holidays`, `five_numbers` and `from_before`, show it all.
-use Rattle.std.specs.Prelude.{ℕ, zero, suc, ◌+◌, ◌≡◌, cond, ◌&&◌, List, [], ◌∷◌, ◌++◌, eqb, length, replicate}
+use Rattle.std.specs.Prelude.{ℕ, zero, suc, ◌+◌, ◌≡◌, cond, ◌&&◌, List, [], ◌∷◌, ◌++◌, eqb, length, replicate, None, Ok}
 use Rattle.numbers.specs.Words.{bytes}
 use Rattle.ranges.specs.declared.Section.TheVariants.{Timings}
 use Rattle.ranges.specs.Sections.{greatest_of}
 use Rattle.calendar.specs.declared.day.Date.{Date}
 use Rattle.calendar.specs.Dates.{is_date, date_of, weekday_of}
+use Rattle.refusals.specs.declared.Refusal.TheVariants.{ShortFile, BadHoliday}
 use Rattle.site.specs.declared.Site.{Site}
 use Rattle.site.specs.Reading.{longest_file, refused, read_of}
 use Rattle.site.specs.Writing.{part_of, bytes_of}
@@ -58,35 +59,35 @@ leap_sundays year (suc n) =
 
 pub record MovedHolidays : Type 0 where
   -- "With it set, 1 April 2024 is the holiday", and its Sunday "an ordinary one";
-  pub sunday : answered cesar_chavez 2024 3 31 noon ≡ (0, 0, 1)
-  pub monday : answered cesar_chavez 2024 4 1 noon ≡ (0, 7, 8)
+  pub sunday : answered cesar_chavez 2024 3 31 noon ≡ (None, 0, 1)
+  pub monday : answered cesar_chavez 2024 4 1 noon ≡ (None, 7, 8)
   -- the look back finds the Sunday's entry on the holiday, and the holiday's on the day after.
-  pub monday_night : answered cesar_chavez 2024 4 1 midnight ≡ (0, 7, 1)
-  pub tuesday_night : answered cesar_chavez 2024 4 2 midnight ≡ (0, 2, 8)
-  pub tuesday : answered cesar_chavez 2024 4 2 noon ≡ (0, 2, 3)
+  pub monday_night : answered cesar_chavez 2024 4 1 midnight ≡ (None, 7, 1)
+  pub tuesday_night : answered cesar_chavez 2024 4 2 midnight ≡ (None, 2, 8)
+  pub tuesday : answered cesar_chavez 2024 4 2 noon ≡ (None, 2, 3)
   -- "Otherwise 0": the Sunday is the holiday.
-  pub stays_sunday : answered fixed_sunday 2024 3 31 noon ≡ (0, 7, 8)
-  pub plain_monday : answered fixed_sunday 2024 4 1 noon ≡ (0, 1, 2)
+  pub stays_sunday : answered fixed_sunday 2024 3 31 noon ≡ (None, 7, 8)
+  pub plain_monday : answered fixed_sunday 2024 4 1 noon ≡ (None, 1, 2)
   -- "When it is a Sunday": on a Monday and on a Saturday it stays.
-  pub stays_monday : answered cesar_chavez 2025 3 31 noon ≡ (0, 7, 8)
-  pub then_tuesday : answered cesar_chavez 2025 4 1 noon ≡ (0, 2, 3)
-  pub stays_saturday : answered cesar_chavez 2029 3 31 noon ≡ (0, 7, 8)
-  pub then_sunday : answered cesar_chavez 2029 4 1 noon ≡ (0, 0, 1)
+  pub stays_monday : answered cesar_chavez 2025 3 31 noon ≡ (None, 7, 8)
+  pub then_tuesday : answered cesar_chavez 2025 4 1 noon ≡ (None, 2, 3)
+  pub stays_saturday : answered cesar_chavez 2029 3 31 noon ≡ (None, 7, 8)
+  pub then_sunday : answered cesar_chavez 2029 4 1 noon ≡ (None, 0, 1)
   -- "Unless another row names it."
-  pub named_sunday : answered both_days 2024 3 31 noon ≡ (0, 7, 8)
-  pub monday_too : answered both_days 2024 4 1 noon ≡ (0, 7, 8)
+  pub named_sunday : answered both_days 2024 3 31 noon ≡ (None, 7, 8)
+  pub monday_too : answered both_days 2024 4 1 noon ≡ (None, 7, 8)
   -- "The move may cross a month or a year." Onto another holiday, it goes no farther.
-  pub last_of_2023 : answered new_years_eve 2023 12 31 noon ≡ (0, 0, 1)
-  pub first_of_2024 : answered new_years_eve 2024 1 1 noon ≡ (0, 7, 8)
-  pub second_of_2024 : answered two_in_a_row 2024 1 2 noon ≡ (0, 2, 3)
+  pub last_of_2023 : answered new_years_eve 2023 12 31 noon ≡ (None, 0, 1)
+  pub first_of_2024 : answered new_years_eve 2024 1 1 noon ≡ (None, 7, 8)
+  pub second_of_2024 : answered two_in_a_row 2024 1 2 noon ≡ (None, 2, 3)
   -- 29 February is a Sunday in four years, 2032 among them; in 2028 it stays, and in 2027, whose 28 February is a Sunday, there is none.
   pub leap_sundays_lem : leap_sundays 2000 100 ≡ (2004 ∷ 2032 ∷ 2060 ∷ 2088 ∷ [])
-  pub leap_sunday : answered leap_day 2032 2 29 noon ≡ (0, 0, 1)
-  pub leap_monday : answered leap_day 2032 3 1 noon ≡ (0, 7, 8)
-  pub leap_tuesday : answered leap_day 2028 2 29 noon ≡ (0, 7, 8)
-  pub no_leap_day : answered leap_day 2027 3 1 noon ≡ (0, 1, 2)
+  pub leap_sunday : answered leap_day 2032 2 29 noon ≡ (None, 0, 1)
+  pub leap_monday : answered leap_day 2032 3 1 noon ≡ (None, 7, 8)
+  pub leap_tuesday : answered leap_day 2028 2 29 noon ≡ (None, 7, 8)
+  pub no_leap_day : answered leap_day 2027 3 1 noon ≡ (None, 1, 2)
   -- 31 December 1999 was a Friday.
-  pub first_day : answered new_years_eve 2000 1 1 noon ≡ (0, 6, 7)
+  pub first_day : answered new_years_eve 2000 1 1 noon ≡ (None, 6, 7)
 
 -- So many of the same row.
 abbrev times : ℕ → List ℕ → List ℕ
@@ -110,15 +111,15 @@ longest =
 -- Of a site with eight entries the fifth number of the first holiday is at byte 128.
 pub record FiveNumbers : Type 0 where
   -- "The file's round trip covers the new record."
-  pub moving : read_of (bytes_of cesar_chavez) ≡ record { refusal = 0; place = 0; site = cesar_chavez }
+  pub moving : read_of (bytes_of cesar_chavez) ≡ Ok cesar_chavez
   -- "A fifth number of 1 on kinds 2 and 3, or above 1, is the old 5."
-  pub above_1 : read_of (bytes_of (observing (fixed_on 3 31 2))) ≡ refused 5 128
-  pub on_kind_2 : read_of (bytes_of (observing (2 ∷ 11 ∷ 4 ∷ 4 ∷ 1 ∷ []))) ≡ refused 5 128
-  pub on_kind_3 : read_of (bytes_of (observing (3 ∷ 11 ∷ 4 ∷ 4 ∷ 1 ∷ []))) ≡ refused 5 128
+  pub above_1 : read_of (bytes_of (observing (fixed_on 3 31 2))) ≡ refused BadHoliday 128
+  pub on_kind_2 : read_of (bytes_of (observing (2 ∷ 11 ∷ 4 ∷ 4 ∷ 1 ∷ []))) ≡ refused BadHoliday 128
+  pub on_kind_3 : read_of (bytes_of (observing (3 ∷ 11 ∷ 4 ∷ 4 ∷ 1 ∷ []))) ≡ refused BadHoliday 128
   -- The longest file.
   pub longest_file_lem : length (bytes_of longest) ≡ longest_file
   pub longest_is : longest_file ≡ 602
-  pub longest_accepted : read_of (bytes_of longest) ≡ record { refusal = 0; place = 0; site = longest }
+  pub longest_accepted : read_of (bytes_of longest) ≡ Ok longest
 
 -- A file of before: no plan entries, holidays in rows of four after their count, and one level.
 abbrev pub file_before : List ℕ → List ℕ
@@ -136,5 +137,5 @@ two_before = file_before (2 ∷ 1 ∷ 3 ∷ 31 ∷ 0 ∷ 1 ∷ 1 ∷ 1 ∷ 0 ∷
 pub record FromBefore : Type 0 where
   pub march : RowsOfFour march_before
   pub two : RowsOfFour two_before
-  pub march_refused : read_of march_before ≡ refused 1 60
-  pub two_refused : read_of two_before ≡ refused 5 54
+  pub march_refused : read_of march_before ≡ refused ShortFile 60
+  pub two_refused : read_of two_before ≡ refused BadHoliday 54

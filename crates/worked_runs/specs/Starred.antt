@@ -1,6 +1,7 @@
 -- Document 01, 'Worked runs': the runs marked *, with the cycles that document 02's A2 gives, the bytes that its A4 gives and the dates of
 -- its A6, in the definitions that the calls' contracts cite. One proof, `starred`, shows them all.
-use Rattle.std.specs.Prelude.{ℕ, ◌≡◌, true, false, [], ◌∷◌, ◌++◌, length, take, replicate}
+use Rattle.std.specs.Prelude.{ℕ, ◌≡◌, true, false, [], ◌∷◌, ◌++◌, length, take, replicate, Ok}
+use Rattle.refusals.specs.declared.Refusal.TheVariants.{ShortFile, LongFile}
 use Rattle.site.specs.Reading.{refused, read_of}
 use Rattle.site.specs.Writing.{bytes_of}
 use Rattle.calendar.specs.declared.day.Date.{Date}
@@ -59,9 +60,9 @@ pub record Starred : Type 0 where
   -- "A file with empty lists is 38 bytes, 37 gives 1, 39 gives 7." Document 02, A4, has all three 4 higher: "The file with empty lists is
   -- now 42 bytes."
   pub empty_lists : length (bytes_of site_a) ≡ 42
-  pub accepted : read_of (bytes_of site_a) ≡ record { refusal = 0; place = 0; site = site_a }
-  pub one_byte_less : read_of (take 41 (bytes_of site_a)) ≡ refused 1 41
-  pub one_byte_more : read_of (bytes_of site_a ++ (0 ∷ [])) ≡ refused 7 42
+  pub accepted : read_of (bytes_of site_a) ≡ Ok site_a
+  pub one_byte_less : read_of (take 41 (bytes_of site_a)) ≡ refused ShortFile 41
+  pub one_byte_more : read_of (bytes_of site_a ++ (0 ∷ [])) ≡ refused LongFile 42
   -- "Tick 50 dark, 51 green, 61 warning, 291 metering, 311 lane 1, 331 lane 2, 371 lane 1."
   pub dark_at_50 : (answer_at site_a metering600 50).shown.colours ≡ 0 ∷ 0 ∷ 0 ∷ 0 ∷ []
   pub green_at_51 : (answer_at site_a metering600 51).shown.colours ≡ 3 ∷ 3 ∷ 0 ∷ 0 ∷ []

@@ -5,6 +5,8 @@
 
 ghost use Rattle.std.specs.Prelude.{◌≤◌};
 
+use text::Text;
+
 // 2^63: a k is below it.
 const HALF: u64 = 9223372036854775808;
 
@@ -38,33 +40,21 @@ fn answer(case: &[u8]) {
     let speed = number_at(case, 0);
     let grade = number_at(case, 5);
     let yellow = slope::yellow_at(speed, grade);
-    let mut out = io::buffer();
-    let a = text::put_signed(&mut out, 0, speed);
-    let b = text::put_byte(&mut out, a, b' ');
-    let c = text::put_signed(&mut out, b, grade);
-    let d = phrases::put_blank_and_decimal(&mut out, c, yellow.refusal as u64);
-    let e = phrases::put_blank_and_decimal(&mut out, d, yellow.ticks as u64);
-    let end = text::put_byte(&mut out, e, b'\n');
-    test_output::print(&out, end);
-}
-
-// Whether there was one more case.
-fn answer_next() -> bool {
+    let refusal = match yellow {
+        Ok(_) => 0,
+        Err(refusal) => refusal.number(),
+    };
     let mut buffer = io::buffer();
-    let case = test_input::next_case(&mut buffer);
-    if case.more {
-        let n = case.count;
-        answer(&buffer[..n]);
-    }
-    case.more
+    let mut line = Text::new(&mut buffer);
+    line.put_signed(speed);
+    line.put_byte(b' ');
+    line.put_signed(grade);
+    phrases::put_blank_and_decimal(&mut line, refusal as u64);
+    phrases::put_blank_and_decimal(&mut line, slope::ticks_given(yellow) as u64);
+    line.put_byte(b'\n');
+    test_output::print(&line);
 }
 
 fn main() {
-    let mut left: u32 = 65536;
-    while 0 < left {
-        if !answer_next() {
-            return;
-        }
-        left -= 1;
-    }
+    test_input::answer_all(&mut io::buffer(), answer);
 }

@@ -9,9 +9,8 @@ use lib.Dec.{leb}
 use lib.IntN.{ℤ, pos, negsuc, neg_ℤ, nat_abs}
 use Rattle.loops.proofs.Cases.{by_test, both_true}
 use Rattle.text.specs.Ascii.{ascii}
-use Rattle.word_value.specs.declared.signed.Word.{Word}
-use Rattle.word_value.specs.declared.signed.Word.TheVariants.{Empty, TooLong, NoNumber, Number}
-use Rattle.word_value.specs.Signed.{kept_number, kept_word}
+use Rattle.std.specs.Prelude.{Ok, Err}
+use Rattle.word_value.specs.Signed.{Word, kept_number, kept_word}
 use Rattle.slope.specs.Slope.{speed_in, grade_in, yellow_at}
 use Rattle.slope.proofs.SlopeLaws.{speed, grade_size}
 use Rattle.yellow_sheet.specs.Answer.{answer_to, answer_of}
@@ -60,19 +59,13 @@ to_kept v s =
     (refused_kept v s)
 
 pub answer_kept : (v s : Word) → answer_of (kept_word v) (kept_word s) ≡ answer_of v s
-answer_kept Empty s = refl
-answer_kept TooLong s = refl
-answer_kept NoNumber s = refl
-answer_kept (Number v) Empty = refl
-answer_kept (Number v) TooLong = refl
-answer_kept (Number v) NoNumber = refl
-answer_kept (Number v) (Number s) = to_kept v s
+answer_kept (Ok v) (Ok s) = to_kept v s
+answer_kept (Ok v) (Err e) = refl
+answer_kept (Err e) s = refl
 
 word_kept : (name word : List ℕ) (w : Word) → word_line name word (kept_word w) ≡ word_line name word w
-word_kept name word Empty = refl
-word_kept name word TooLong = refl
-word_kept name word NoNumber = refl
-word_kept name word (Number z) = refl
+word_kept name word (Ok z) = refl
+word_kept name word (Err e) = refl
 
 not_numbers_kept : (speed : List ℕ) (v : Word) (grade : List ℕ) (s : Word) → not_numbers speed (kept_word v) grade (kept_word s) ≡ not_numbers speed v grade s
 unfolding not_numbers
@@ -83,10 +76,6 @@ unfolding ranges_of
 ranges_kept speed grade v s = rw (speed_kept v, grade_kept s)
 
 pub complaint_kept : (speed : List ℕ) (v : Word) (grade : List ℕ) (s : Word) → complaint_of speed (kept_word v) grade (kept_word s) ≡ complaint_of speed v grade s
-complaint_kept speed Empty grade s = not_numbers_kept speed Empty grade s
-complaint_kept speed TooLong grade s = not_numbers_kept speed TooLong grade s
-complaint_kept speed NoNumber grade s = not_numbers_kept speed NoNumber grade s
-complaint_kept speed (Number v) grade Empty = not_numbers_kept speed (Number v) grade Empty
-complaint_kept speed (Number v) grade TooLong = not_numbers_kept speed (Number v) grade TooLong
-complaint_kept speed (Number v) grade NoNumber = not_numbers_kept speed (Number v) grade NoNumber
-complaint_kept speed (Number v) grade (Number s) = ranges_kept speed grade v s
+complaint_kept speed (Ok v) grade (Ok s) = ranges_kept speed grade v s
+complaint_kept speed (Ok v) grade (Err e) = not_numbers_kept speed (Ok v) grade (Err e)
+complaint_kept speed (Err e) grade s = not_numbers_kept speed (Err e) grade s

@@ -1,11 +1,12 @@
 -- What the program writes on standard error of a speed and a grade, and of a number of arguments.
-use Rattle.std.specs.Prelude.{ℕ, Bool, cond, List, [], ◌++◌, ℤ}
+use Rattle.std.specs.Prelude.{ℕ, Bool, cond, List, [], ◌++◌, ℤ, Ok, Err}
 use Rattle.text.specs.Ascii.{ascii}
 use Rattle.text.specs.Decimal.{signed}
 use Rattle.phrases.specs.Phrases.{wanted_line}
+use Rattle.refusals.specs.declared.Refusal.TheVariants.{BadApproach}
 use Rattle.phrases.specs.Wrong.{opening_text}
-use Rattle.word_value.specs.declared.signed.Word.{Word}
-use Rattle.word_value.specs.declared.signed.Word.TheVariants.{Empty, TooLong, NoNumber, Number}
+use Rattle.word_value.specs.declared.signed.BadWord.TheVariants.{Empty, TooLong, NoNumber}
+use Rattle.word_value.specs.Signed.{Word}
 use Rattle.slope.specs.Slope.{least_speed, most_speed, least_grade, most_grade, speed_in, grade_in}
 
 unfoldable pub usage_line : List ℕ
@@ -25,10 +26,10 @@ no_number_line name word = given_text name word ++ ascii " is no number\n"
 
 -- The line of a word that is no number; of a number there is none.
 abbrev pub word_line : List ℕ → List ℕ → Word → List ℕ
-word_line name word Empty = named_line name (ascii " is empty\n")
-word_line name word TooLong = named_line name (ascii " is longer than 4096 bytes\n")
-word_line name word NoNumber = no_number_line name word
-word_line name word (Number z) = []
+word_line name word (Err Empty) = named_line name (ascii " is empty\n")
+word_line name word (Err TooLong) = named_line name (ascii " is longer than 4096 bytes\n")
+word_line name word (Err NoNumber) = no_number_line name word
+word_line name word (Ok z) = []
 
 -- Each of the two words that is no number gets its line; behind them stands how the program is used.
 unfoldable pub not_numbers : List ℕ → Word → List ℕ → Word → List ℕ
@@ -37,7 +38,7 @@ not_numbers speed v grade s = word_line (ascii "speed") speed v ++ (word_line (a
 -- `bad approach: speed 081, allowed 20-80`.
 unfoldable pub range_line : List ℕ → List ℕ → ℤ → List ℕ → ℤ → List ℕ
 range_line name word low to high =
-    opening_text 16 ++ (given_text name word ++ (ascii ", allowed " ++ (signed low ++ (to ++ (signed high ++ ascii "\n")))))
+    opening_text BadApproach ++ (given_text name word ++ (ascii ", allowed " ++ (signed low ++ (to ++ (signed high ++ ascii "\n")))))
 
 -- A line, unless the number is in range.
 unfoldable pub unless_in : Bool → List ℕ → List ℕ
@@ -49,19 +50,11 @@ ranges_of speed v grade s =
     unless_in (speed_in v) (range_line (ascii "speed") speed least_speed (ascii "-") most_speed)
     ++ unless_in (grade_in s) (range_line (ascii "grade") grade least_grade (ascii " to ") most_grade)
 
--- Where both words are numbers, the lines of those that are out of range.
-abbrev pub complaint_at : List ℕ → ℤ → List ℕ → Word → List ℕ
-complaint_at speed v grade Empty = not_numbers speed (Number v) grade Empty
-complaint_at speed v grade TooLong = not_numbers speed (Number v) grade TooLong
-complaint_at speed v grade NoNumber = not_numbers speed (Number v) grade NoNumber
-complaint_at speed v grade (Number s) = ranges_of speed v grade s
-
--- The words, and what they say.
+-- Where both words are numbers, the lines of those that are out of range; else those of the words that are none.
 abbrev pub complaint_of : List ℕ → Word → List ℕ → Word → List ℕ
-complaint_of speed Empty grade s = not_numbers speed Empty grade s
-complaint_of speed TooLong grade s = not_numbers speed TooLong grade s
-complaint_of speed NoNumber grade s = not_numbers speed NoNumber grade s
-complaint_of speed (Number v) grade s = complaint_at speed v grade s
+complaint_of speed (Ok v) grade (Ok s) = ranges_of speed v grade s
+complaint_of speed (Ok v) grade (Err e) = not_numbers speed (Ok v) grade (Err e)
+complaint_of speed (Err e) grade s = not_numbers speed (Err e) grade s
 
 -- `1 argument, none or 2 wanted`, `3 arguments, none or 2 wanted`.
 unfoldable pub wrong_count : ℕ → List ℕ

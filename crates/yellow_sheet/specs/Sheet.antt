@@ -4,7 +4,7 @@ use Rattle.text.specs.Ascii.{ascii}
 use Rattle.text.specs.Decimal.{decimal, signed}
 use Rattle.text.specs.Joined.{joined}
 use Rattle.phrases.specs.Phrases.{blank_and_seconds}
-use Rattle.slope.specs.Slope.{least_speed, most_speed, least_grade, yellow_at}
+use Rattle.slope.specs.Slope.{least_speed, most_speed, least_grade, yellow_at, ticks_given}
 
 -- The grade of a column, from 0: -80, -70 and so on.
 abbrev pub grade_of : ℕ → ℤ
@@ -19,7 +19,7 @@ grade_texts = joined grade_text 0 17
 
 -- The yellows of a speed, in seconds.
 unfoldable pub yellow_text : ℕ → ℕ → List ℕ
-yellow_text speed column = blank_and_seconds (yellow_at (pos speed) (grade_of column)).ticks
+yellow_text speed column = blank_and_seconds (ticks_given (yellow_at (pos speed) (grade_of column)))
 
 abbrev pub yellow_texts : ℕ → List ℕ
 yellow_texts speed = joined (yellow_text speed) 0 17

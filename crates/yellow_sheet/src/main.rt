@@ -11,6 +11,7 @@ ghost use Rattle.io.specs.Counts.{IsPrefixLen};
 use std::env::FillError;
 use std::rt::Env;
 use streams::STDERR_FILENO;
+use text::Text;
 
 // A byte more than a word may have, so that one that is too long is seen to be.
 const ARGUMENT: usize = word_value::LONGEST_WORD + 1;
@@ -27,11 +28,13 @@ fn argument(rt: &impl Env, i: usize, word: &mut [u8]) -> usize
 }
 
 fn print_words(rt: &impl Print, speed: &[u8], grade: &[u8]) {
-    let mut text = io::large_buffer();
-    let n = answer::put_one(&mut text, speed, grade);
-    if site_program::write_front(rt, &text, n) {
-        let m = complaint::put_complaint(&mut text, speed, grade);
-        site_program::write_error(STDERR_FILENO, &text, m);
+    let mut buffer = io::large_buffer();
+    let mut answer = Text::new(&mut buffer);
+    answer::put_one(&mut answer, speed, grade);
+    if site_program::write_text(rt, &answer) {
+        let mut complaint = Text::new(&mut buffer);
+        complaint::put_complaint(&mut complaint, speed, grade);
+        site_program::write_error(STDERR_FILENO, &complaint);
     }
 }
 
@@ -44,20 +47,20 @@ fn print_one(rt: &(impl Env + Print)) {
 }
 
 fn print_help(rt: &impl Print) {
-    let mut text = io::buffer();
-    let p = complaint::put_usage(&mut text, 0);
-    let n = text::put_bytes(
-        &mut text,
-        p,
+    let mut buffer = io::buffer();
+    let mut text = Text::new(&mut buffer);
+    complaint::put_usage(&mut text);
+    text.put(
         b"Prints the yellow in seconds for each approach speed, 20 to 80 km/h, and each grade, -80 to 80 per mille in steps of 10.\nDownhill is negative. With SPEED and GRADE it prints that one yellow in ticks and in seconds, as a line for a site's text.\ndocs/FORMATS.md describes both.\n",
     );
-    site_program::write_front(rt, &text, n);
+    site_program::write_text(rt, &text);
 }
 
 fn print_wrong_count(count: usize) {
-    let mut text = io::buffer();
-    let n = complaint::put_wrong_count(&mut text, count);
-    site_program::write_error(STDERR_FILENO, &text, n);
+    let mut buffer = io::buffer();
+    let mut text = Text::new(&mut buffer);
+    complaint::put_wrong_count(&mut text, count);
+    site_program::write_error(STDERR_FILENO, &text);
 }
 
 fn main(rt: HostRuntime) {

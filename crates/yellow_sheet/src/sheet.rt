@@ -1,7 +1,9 @@
 // The sheet of all speeds.
 ghost use Rattle.std.specs.Prelude.{◌≡◌, ◌≤◌};
-ghost use Rattle.text.specs.Put.{Put};
+ghost use Rattle.text.specs.Puts.{Puts};
 ghost use Rattle.yellow_sheet.specs.Sheet.{grade_of, grade_text, grade_texts, yellow_text, yellow_texts, speed_line, speed_lines, sheet_text};
+
+use text::Text;
 
 // A column for each grade, from the least on in steps of 10.
 const COLUMNS: u16 = 17;
@@ -22,80 +24,68 @@ fn grade_of(column: u16) -> i64
     slope::LEAST_GRADE + STEP * (column as i64)
 }
 
-fn put_grade(out: &mut [u8], at: usize, column: u16) -> usize
+fn put_grade(out: &mut Text, column: u16)
     requires { column ≤ 16 }
-    ensures { Put out.old at (grade_text column) result out.new }
+    ensures { Puts out.old (grade_text column) out.new }
 {
-    let p = text::put_byte(out, at, b' ');
-    text::put_signed(out, p, grade_of(column))
+    out.put_byte(b' ');
+    out.put_signed(grade_of(column));
 }
 
-fn put_grades(out: &mut [u8], at: usize) -> usize
-    ensures { Put out.old at grade_texts result out.new }
+fn put_grades(out: &mut Text)
+    ensures { Puts out.old grade_texts out.new }
 {
-    let mut p = at;
-    let mut column: u16 = 0;
-    while column < COLUMNS {
-        p = put_grade(out, p, column);
-        column += 1;
+    for column in 0..COLUMNS {
+        put_grade(out, column);
     }
-    p
 }
 
-fn put_yellow(out: &mut [u8], at: usize, speed: u16, column: u16) -> usize
+fn put_yellow(out: &mut Text, speed: u16, column: u16)
     requires { column ≤ 16 }
-    ensures { Put out.old at (yellow_text speed column) result out.new }
+    ensures { Puts out.old (yellow_text speed column) out.new }
 {
     let yellow = slope::yellow_at(speed as i64, grade_of(column));
-    phrases::put_blank_and_seconds(out, at, yellow.ticks)
+    phrases::put_blank_and_seconds(out, slope::ticks_given(yellow));
 }
 
-fn put_yellows(out: &mut [u8], at: usize, speed: u16) -> usize
-    ensures { Put out.old at (yellow_texts speed) result out.new }
+fn put_yellows(out: &mut Text, speed: u16)
+    ensures { Puts out.old (yellow_texts speed) out.new }
 {
-    let mut p = at;
-    let mut column: u16 = 0;
-    while column < COLUMNS {
-        p = put_yellow(out, p, speed, column);
-        column += 1;
+    for column in 0..COLUMNS {
+        put_yellow(out, speed, column);
     }
-    p
 }
 
-fn put_speed(out: &mut [u8], at: usize, speed: u16) -> usize
-    ensures { Put out.old at (speed_line speed) result out.new }
+fn put_speed(out: &mut Text, speed: u16)
+    ensures { Puts out.old (speed_line speed) out.new }
 {
-    let p = text::put_decimal(out, at, speed as u64);
-    let q = put_yellows(out, p, speed);
-    text::put_byte(out, q, b'\n')
+    out.put_decimal(speed as u64);
+    put_yellows(out, speed);
+    out.put_byte(b'\n');
 }
 
-fn put_speeds(out: &mut [u8], at: usize) -> usize
-    ensures { Put out.old at speed_lines result out.new }
+fn put_speeds(out: &mut Text)
+    ensures { Puts out.old speed_lines out.new }
 {
-    let mut p = at;
-    let mut speed = FIRST_SPEED;
-    while speed <= LAST_SPEED {
-        p = put_speed(out, p, speed);
-        speed += 1;
+    for speed in FIRST_SPEED..=LAST_SPEED {
+        put_speed(out, speed);
     }
-    p
 }
 
-fn put_sheet(out: &mut [u8]) -> usize
-    ensures { Put out.old 0 sheet_text result out.new }
+fn put_sheet(out: &mut Text)
+    ensures { Puts out.old sheet_text out.new }
 {
-    let p = text::put_bytes(out, 0, b"speed");
-    let q = put_grades(out, p);
-    let r = text::put_byte(out, q, b'\n');
-    put_speeds(out, r)
+    out.put(b"speed");
+    put_grades(out);
+    out.put_byte(b'\n');
+    put_speeds(out);
 }
 
-// The whole sheet, in a buffer of its length.
+// The whole sheet, in a buffer of its length: that it is filled to the end is proved of this text.
 fn fill_sheet(out: &mut [u8; SHEET])
     ensures { out.new ≡ sheet_text }
 {
-    put_sheet(out);
+    put_sheet(&mut Text::new(out));
 }
 
 pub fn print_sheet(rt: &impl Print) {

@@ -18,7 +18,7 @@ answers : (date : Date) (rows : List ℕ) (count r : ℕ) → r ≡ day_type_of 
     → (r ≡ day_type_of date rows count) × (is_date date ≡ true → Typed date rows count r)
 answers date rows count r e = (e, λ ok. subst⁻¹ (λ (day : ℕ). Typed date rows count day) e (typed date rows count ok))
 
-no_date : (c : Then-not-is_date) → let a = c.args in 8 ≡ day_type_of a.date a.rows.now a.count
+no_date : (c : Then-not-is_date) → let a = c.args in 8 ≡ day_type_of a.date a.holidays.numbers.now a.holidays.count
 unfolding day_type_of
 no_date c = rw (sym c.is_date.ensures ∙ not-true _ c.if-not-is_date.true-raw)
 
@@ -28,7 +28,7 @@ dated c = sym c.is_date.ensures ∙ not-false _ c.if-not-is_date.false-raw
 -- Of a date it is Holiday or the weekday, by the call's answer.
 by_answer : (c : After-is_holiday)
     → let a = c.args in
-    day_type_of a.date a.rows.now a.count ≡ cond c.is_holiday.result 7 c.weekday-weekday.result
+    day_type_of a.date a.holidays.numbers.now a.holidays.count ≡ cond c.is_holiday.result 7 c.weekday-weekday.result
 unfolding day_type_of today_of
 by_answer c =
     rw (
@@ -42,14 +42,8 @@ by_answer c =
 pub returns-then-not-is_date : goal.returns-then-not-is_date
 returns-then-not-is_date c = let all = answers _ _ _ _ (no_date c) in record { is = all.0; named = all.1 }
 
-pub weekday-weekday-requires : goal.weekday-weekday-requires
-weekday-weekday-requires c = dated c
-
 pub in_month-today-requires : goal.in_month-today-requires
 in_month-today-requires c = let b = bounds _ (dated (goal.at.in_month-today-requires c).Else-not-is_date) in (b.month_low, b.month_high, b.day_high)
-
-pub yesterday-yesterday-requires : goal.yesterday-yesterday-requires
-yesterday-yesterday-requires c = (dated (goal.at.yesterday-yesterday-requires c).Else-not-is_date, c.weekday-weekday.ensures)
 
 pub returns-then-is_holiday : goal.returns-then-is_holiday
 returns-then-is_holiday c = let all = answers _ _ _ _ (sym (rw c.if-is_holiday.true at (by_answer (goal.at.returns-then-is_holiday c).After-is_holiday))) in record { is = all.0; named = all.1 }

@@ -10,35 +10,36 @@ use Rattle.wanted.proofs.LevelLaws.{levelled}
 use Rattle.state.specs.State.{state_spoilt}
 use Rattle.state.proofs.StateLaws.{state_good}
 use Rattle.decide.proofs.AcceptedLaws.{accepted}
-use Rattle.decide.specs.Decide.{decided_of}
+use Rattle.decide.specs.Decide.{unless, decided_of}
 use mathlib.Core.Bool.{false}
 use mathlib.Core.Path.{◌≡◌}
-use borrow.Author.Tests.{ne_eqb}
 use Rattle.decide.proofs.decide.Goals as goal
-use Rattle.decide.proofs.decide.Goals.{Else-refusal-ne0}
+use Rattle.decide.proofs.decide.Goals.{In_default}
 
-in_range : (c : Else-refusal-ne0)
+in_range : (c : In_default)
     → let a = c.args in
     (spoilt_site a.site ≡ false) × ((state_spoilt a.state (shape_of a.site) ≡ false) × (clock_bad a.clock ≡ false))
 in_range c =
     let a = c.args in
-    accepted a.site a.state a.clock a.manual a.centre (rw (← c.refusal_of-refusal.ensures) c.if-refusal-ne0.false)
+    accepted a.site a.state a.clock a.manual a.centre (rw (← c.refusal_of.ensures) c.in_default.is)
 
-pub returns-then-refusal-ne0 : goal.returns-then-refusal-ne0
-unfolding decided_of
-returns-then-refusal-ne0 c = (record { is = rw (← c.refusal_of-refusal.ensures, ne_eqb _ _ c.if-refusal-ne0.true, c.no_decision.ensures); day = (λ z. absurd (c.if-refusal-ne0.true z)); entry = (λ z. absurd (c.if-refusal-ne0.true z)); levelled = (λ z. absurd (c.if-refusal-ne0.true z)) })
+pub returns-in-Some-clause-is : goal.returns-in-Some-clause-is
+unfolding decided_of unless
+returns-in-Some-clause-is c = rw (← c.refusal_of.ensures, c.in-Some.is)
 
 pub wanted_now-requires : goal.wanted_now-requires
-wanted_now-requires c = tenth_good _ (in_range (goal.at.wanted_now-requires c).Else-refusal-ne0).1.1
+wanted_now-requires c = tenth_good _ (in_range (goal.at.wanted_now-requires c).In_default).1.1
 
 pub returns : goal.returns
-unfolding decided_of decision_of
+unfolding decided_of decision_of unless
 returns c =
-    let a = c.args in (record {
-      is = rw (← c.refusal_of-refusal.ensures, c.if-refusal-ne0.false, c.wanted_now.ensures);
-      day = (λ _. rw c.wanted_now.ensures (day_is a.site a.clock (in_range (goal.at.returns c).Else-refusal-ne0).1.1));
-      entry = (λ _. rw c.wanted_now.ensures (entry_is a.site a.clock (in_range (goal.at.returns c).Else-refusal-ne0).0 (in_range (goal.at.returns c).Else-refusal-ne0).1.1));
-      levelled = (λ _. rw c.wanted_now.ensures
+    let a = c.args in
+    let range = in_range (goal.at.returns c).In_default in
+    record {
+      is = rw (← c.refusal_of.ensures, c.in_default.is, c.wanted_now.ensures);
+      day = rw c.wanted_now.ensures (day_is a.site a.clock range.1.1);
+      entry = rw c.wanted_now.ensures (entry_is a.site a.clock range.0 range.1.1);
+      levelled = rw c.wanted_now.ensures
           (levelled a.site a.clock a.manual a.centre a.state.periods (metered_lanes a.site)
-          (timings_good a.site (in_range (goal.at.returns c).Else-refusal-ne0).0).mainline_most (state_good a.state (shape_of a.site) (in_range (goal.at.returns c).Else-refusal-ne0).1.0).periods));
-    })
+          (timings_good a.site range.0).mainline_most (state_good a.state (shape_of a.site) range.1.0).periods);
+    }

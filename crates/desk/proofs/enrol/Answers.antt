@@ -1,5 +1,5 @@
 -- The check, then the change.
-use borrow.Author.Tests.{ne_eqb}
+use Rattle.refusals.proofs.NoneLaws.{no_refusal, refused, accepted}
 use mathlib.Core.Path.{sym, ◌∙◌}
 use native.Mathlib.Omega.{arith}
 use Rattle.desk.specs.Desk.{enrol_of}
@@ -8,15 +8,15 @@ use Rattle.desk.proofs.Promises.{enrol_promises}
 use borrow.Author.Rules.{rules}
 use Rattle.desk.proofs.enrol.Goals as goal
 
-pub returns-then-refusal-ne0 : goal.returns-then-refusal-ne0
+pub returns-then-is_some : goal.returns-then-is_some
 unfolding enrol_of
-returns-then-refusal-ne0 c = let all = enrol_promises c.args.desk c.args.cabinet (search rules) (record { refusal = c.refusal_of-refusal.result; desk = c.args.desk }) (search rules)
-    (rw (← c.refusal_of-refusal.ensures, ne_eqb _ _ c.if-refusal-ne0.true)) in record { is = all.0; words = all.1.0; no_other = all.1.1.0; in_range = all.1.1.1 }
+returns-then-is_some c = let all = enrol_promises c.args.desk c.args.cabinet (search rules) (record { refusal = c.refusal_of-refusal.result; desk = c.args.desk }) (search rules)
+    (rw (← c.refusal_of-refusal.ensures, refused _ (sym c.is_some.ensures ∙ c.if-is_some.true))) in record { is = all.0; words = all.1.0; no_other = all.1.1.0; in_range = all.1.1.1 }
 
 pub with_cabinet-requires : goal.with_cabinet-requires
-with_cabinet-requires c = omega (arith, (passes _ _ _ (sym c.refusal_of-refusal.ensures ∙ c.if-refusal-ne0.false)).number_most)
+with_cabinet-requires c = omega (arith, (passes _ _ _ (sym c.refusal_of-refusal.ensures ∙ no_refusal _ (accepted _ (sym c.is_some.ensures ∙ c.if-is_some.false)))).number_most)
 
 pub returns : goal.returns
 unfolding enrol_of
-returns c = let all = enrol_promises c.args.desk c.args.cabinet (search rules) (record { refusal = 0; desk = c.with_cabinet.result }) (search rules)
-    (rw (sym c.refusal_of-refusal.ensures ∙ c.if-refusal-ne0.false, c.with_cabinet.ensures)) in record { is = all.0; words = all.1.0; no_other = all.1.1.0; in_range = all.1.1.1 }
+returns c = let all = enrol_promises c.args.desk c.args.cabinet (search rules) (record { refusal = c.refusal_of-refusal.result; desk = c.with_cabinet.result }) (search rules)
+    (rw (← c.refusal_of-refusal.ensures, accepted _ (sym c.is_some.ensures ∙ c.if-is_some.false), c.with_cabinet.ensures)) in record { is = all.0; words = all.1.0; no_other = all.1.1.0; in_range = all.1.1.1 }

@@ -1,10 +1,10 @@
 -- The calls are the definition's; the two lists have 16 entries at most.
 use Rattle.joining.proofs.JoinLaws.{spoilt_first, spoilt_second, count_most, kept_count, too_many, joins}
 use Rattle.joining.proofs.Promises.{promised}
-use Rattle.joining.specs.Joining.{spoilt_list, answer_of}
+use Rattle.joining.specs.Joining.{spoilt_list}
 use Prim.Native.Nat.{◌≤◌}
 use mathlib.Core.Bool.{false}
-use mathlib.Core.Path.{◌≡◌, ap, sym, ◌∙◌}
+use mathlib.Core.Path.{◌≡◌, sym, ◌∙◌}
 use borrow.Author.Rules.{rules}
 use Rattle.joining.proofs.join.Goals as goal
 use Rattle.joining.proofs.join.Goals.{Else-spoilt_plan, Else-spoilt_plan-2}
@@ -19,12 +19,12 @@ sound-second c = sym c.spoilt_plan-2.ensures ∙ c.if-spoilt_plan-2.false
 pub returns-then-spoilt_plan : goal.returns-then-spoilt_plan
 returns-then-spoilt_plan c =
     let a = c.args in
-    let all = promised a.first a.second _ (c.answer.ensures ∙ ap (answer_of 14) c.empty-none.ensures ∙ spoilt_first a.first a.second (sym c.spoilt_plan.ensures ∙ c.if-spoilt_plan.true)) in record { is = all.0; words = all.1.0; could_be_filed = all.1.1.0; same_in_force = all.1.1.1.0; same_decisions = all.1.1.1.1.0; same_ticks = all.1.1.1.1.1 }
+    let all = promised a.first a.second _ (spoilt_first a.first a.second (sym c.spoilt_plan.ensures ∙ c.if-spoilt_plan.true)) in record { is = all.0; words = all.1.0; could_be_filed = all.1.1.0; same_in_force = all.1.1.1.0; same_decisions = all.1.1.1.1.0; same_ticks = all.1.1.1.1.1 }
 
 pub returns-then-spoilt_plan-2 : goal.returns-then-spoilt_plan-2
 returns-then-spoilt_plan-2 c =
     let a = c.args in
-    let all = promised a.first a.second _ (c.answer-then-spoilt_plan-2.ensures ∙ ap (answer_of 14) c.empty-none.ensures ∙ spoilt_second a.first a.second (sound-first (goal.at.returns-then-spoilt_plan-2 c).Else-spoilt_plan) (sym c.spoilt_plan-2.ensures ∙ c.if-spoilt_plan-2.true)) in record { is = all.0; words = all.1.0; could_be_filed = all.1.1.0; same_in_force = all.1.1.1.0; same_decisions = all.1.1.1.1.0; same_ticks = all.1.1.1.1.1 }
+    let all = promised a.first a.second _ (spoilt_second a.first a.second (sound-first (goal.at.returns-then-spoilt_plan-2 c).Else-spoilt_plan) (sym c.spoilt_plan-2.ensures ∙ c.if-spoilt_plan-2.true)) in record { is = all.0; words = all.1.0; could_be_filed = all.1.1.0; same_in_force = all.1.1.1.0; same_decisions = all.1.1.1.1.0; same_ticks = all.1.1.1.1.1 }
 
 pub keep-kept-requires : goal.keep-kept-requires
 keep-kept-requires c =
@@ -40,7 +40,7 @@ overflow_add-kept c =
 pub returns-then-kept-second-gt-MOST_ENTRIES : goal.returns-then-kept-second-gt-MOST_ENTRIES
 returns-then-kept-second-gt-MOST_ENTRIES c =
     let a = c.args in
-    let all = promised a.first a.second _ (c.answer-then-kept-second-gt-MOST_ENTRIES.ensures ∙ ap (answer_of 17) c.empty-none.ensures ∙ too_many a.first a.second (sound-first (goal.at.returns-then-kept-second-gt-MOST_ENTRIES c).Else-spoilt_plan) (sound-second (goal.at.returns-then-kept-second-gt-MOST_ENTRIES c).Else-spoilt_plan-2) _ c.keep-kept.ensures (search rules)) in record { is = all.0; words = all.1.0; could_be_filed = all.1.1.0; same_in_force = all.1.1.1.0; same_decisions = all.1.1.1.1.0; same_ticks = all.1.1.1.1.1 }
+    let all = promised a.first a.second _ (too_many a.first a.second (sound-first (goal.at.returns-then-kept-second-gt-MOST_ENTRIES c).Else-spoilt_plan) (sound-second (goal.at.returns-then-kept-second-gt-MOST_ENTRIES c).Else-spoilt_plan-2) _ c.keep-kept.ensures (search rules)) in record { is = all.0; words = all.1.0; could_be_filed = all.1.1.0; same_in_force = all.1.1.1.0; same_decisions = all.1.1.1.1.0; same_ticks = all.1.1.1.1.1 }
 
 pub returns : goal.returns
 returns c =

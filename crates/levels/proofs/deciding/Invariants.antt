@@ -1,11 +1,8 @@
--- The loop's invariant: none of the levels passed decides, so the one among those left does.
+-- The loop's invariant: the levels left answer as all do.
 use Rattle.levels.specs.Levels.{deciding_of}
-use Prim.Native.Nat.{◌≤◌}
 use mathlib.Core.Path.{◌≡◌}
 use Rattle.levels.proofs.deciding.Given as goal
 
-abbrev pub invariant-loop-place : goal.invariant-loop-place
-invariant-loop-place l = (l.place ≤ l.count) × (deciding_of l.rows l.place l.table l.q ≡ deciding_of l.rows l.count l.table l.q)
-
-abbrev pub decreases-loop-place : goal.decreases-loop-place
-decreases-loop-place l = l.place
+abbrev pub invariant-loop-i : goal.invariant-loop-i
+invariant-loop-i l =
+    deciding_of l.levels.numbers.now l.i l.table l.q ≡ deciding_of l.levels.numbers.now l.levels.count l.table l.q

@@ -1,16 +1,16 @@
 -- The code's tests are the definition's.
 use Rattle.levels.specs.Levels.{is_slow}
-use borrow.Author.Tests.{eq-eqb, ne_eqb, not-true, not-false}
+use borrow.Author.Tests.{eq-eqb, ne_eqb}
 use Rattle.levels.proofs.is_slow.Goals as goal
 
-pub returns-then-threshold-eq-UNUSED : goal.returns-then-threshold-eq-UNUSED
+pub returns-in-None : goal.returns-in-None
 unfolding is_slow
-returns-then-threshold-eq-UNUSED c = rw (eq-eqb _ _ c.if-threshold-eq-UNUSED.true)
+returns-in-None c = rw c.in-None.is
 
-pub returns-then-not-known : goal.returns-then-not-known
+pub returns-then-threshold-ne-UNUSED : goal.returns-then-threshold-ne-UNUSED
 unfolding is_slow
-returns-then-not-known c = let a = c.args in rw (ne_eqb _ _ c.if-threshold-eq-UNUSED.false, not-true a.known c.if-not-known.true-raw)
+returns-then-threshold-ne-UNUSED c = rw (c.in-Some.is, ne_eqb _ _ c.if-threshold-ne-UNUSED.true) c.at_most.ensures
 
-pub returns : goal.returns
+pub returns-else-threshold-ne-UNUSED : goal.returns-else-threshold-ne-UNUSED
 unfolding is_slow
-returns c = let a = c.args in rw (ne_eqb _ _ c.if-threshold-eq-UNUSED.false, not-false a.known c.if-not-known.false-raw) c.at_most.ensures
+returns-else-threshold-ne-UNUSED c = rw (c.in-Some.is, eq-eqb _ _ c.if-threshold-ne-UNUSED.false)

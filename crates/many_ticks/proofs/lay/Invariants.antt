@@ -1,5 +1,5 @@
 -- The loop's invariant: storing what is left of the bytes, from its place on, leaves what storing all of them leaves.
-use Prim.Native.Nat.{◌-◌, ◌≤◌}
+use Prim.Native.Nat.{◌≤◌}
 use mathlib.Core.Path.{◌≡◌}
 use mathlib.Core.List.{[], ◌∷◌, ◌++◌}
 use lib.ListN.{length, take}
@@ -11,6 +11,3 @@ invariant-loop-i l =
     (l.i ≤ l.n)
     × (length l.out ≡ length l.initial.out)
     × (sets l.out l.i (slice l.i l.n l.shown.colours ++ (l.shown.sign ∷ [])) ≡ sets l.initial.out 0 (take l.n l.shown.colours ++ (l.shown.sign ∷ [])))
-
-abbrev pub decreases-loop-i : goal.decreases-loop-i
-decreases-loop-i l = l.n - l.i

@@ -6,6 +6,9 @@ use mathlib.Core.List.{List}
 use native.Mathlib.Omega.{arith}
 use native.Mathlib.Nat.{zero-mul}
 use lib.ListN.{length}
+use Rattle.std.specs.Prelude.{Some}
+use Rattle.refusals.specs.declared.Refusal.{Refusal}
+use Rattle.refusals.specs.declared.Refusal.TheVariants.{SmallBuffer, SpoiltState, SpoiltSite}
 use Rattle.site.specs.declared.Site.{Site}
 use Rattle.site.specs.Record.{spoilt_site}
 use Rattle.site.specs.Named.{metered_lanes, shape_of}
@@ -37,13 +40,13 @@ laws : (x : Site) (s : State) (records out : List ℕ) → Laws x s records out
 laws x s records out = ((λ ok good shown. call_singly x s shown records (length out) ok good), (in_blocks x s records out, over_lists x))
 
 -- And of what it answers: 11 only where the output is shorter than the records.
-room : (x : Site) (s : State) (records out : List ℕ) (r : Ran) → r ≡ ran_of (run_of x s records (length out)) → length records ≤ length out → r.refusal ≡ 11 → ⊥
+room : (x : Site) (s : State) (records out : List ℕ) (r : Ran) → r ≡ ran_of (run_of x s records (length out)) → length records ≤ length out → r.refusal ≡ Some SmallBuffer → ⊥
 unfolding ran_of
 room x s records out r is enough z = room_enough x s records (length out) enough (sym (ap (λ (a : Ran). a.refusal) is) ∙ z)
 
 -- A call that ends before the first record gives the state that came and touches no byte.
-module _ (x : Site) (s : State) (records out : List ℕ) (refusal : ℕ) (r : Ran)
-    (given : r ≡ ran_of (ends_with s refusal)) (is : run_of x s records (length out) ≡ ends_with s refusal) where
+module _ (x : Site) (s : State) (records out : List ℕ) (refusal : Refusal) (r : Ran)
+    (given : r ≡ ran_of (ends_with s (Some refusal))) (is : run_of x s records (length out) ≡ ends_with s (Some refusal)) where
   none : r.accepted * (metered_lanes x + 1) ≡ 0
   unfolding ran_of
   none = ap (λ (a : Ran). a.accepted * (metered_lanes x + 1)) given ∙ zero-mul (metered_lanes x + 1)
@@ -51,7 +54,7 @@ module _ (x : Site) (s : State) (records out : List ℕ) (refusal : ℕ) (r : Ra
   ends : (r ≡ ran_of (run_of x s records (length out)))
       × ((out ≡ output_of (run_of x s records (length out)) out)
       × ((state_spoilt s (shape_of x) ≡ false → state_spoilt r.state (shape_of x) ≡ false)
-      × (((length (run_of x s records (length out)).laid ≡ r.accepted * (metered_lanes x + 1)) × (r.accepted * (metered_lanes x + 1) ≤ length out)) × ((length records ≤ length out → r.refusal ≡ 11 → ⊥) × Laws x s records out))))
+      × (((length (run_of x s records (length out)).laid ≡ r.accepted * (metered_lanes x + 1)) × (r.accepted * (metered_lanes x + 1) ≤ length out)) × ((length records ≤ length out → r.refusal ≡ Some SmallBuffer → ⊥) × Laws x s records out))))
   unfolding ran_of output_of
   ends = (
     given ∙ ap ran_of (sym is),
@@ -75,13 +78,13 @@ pub returns-then-spoilt : goal.returns-then-spoilt
 unfolding run_of
 returns-then-spoilt c =
     let a = c.args in
-    let all = ends a.site a.state a.records.now a.out.now 14 _ c.stopped.ensures (rw (sym c.spoilt.ensures ∙ c.if-spoilt.true)) in record { is = all.0; output = all.1.0; kept = all.1.1.0; long = all.1.1.1.0; room = all.1.1.1.1.0; singly = all.1.1.1.1.1.0; blocks = all.1.1.1.1.1.1.0; waits = all.1.1.1.1.1.1.1.0; clears = all.1.1.1.1.1.1.1.1.0; serves = all.1.1.1.1.1.1.1.1.1.0; holds = all.1.1.1.1.1.1.1.1.1.1 }
+    let all = ends a.site a.state a.records.now a.out.now SpoiltSite _ c.stopped.ensures (rw (sym c.spoilt.ensures ∙ c.if-spoilt.true)) in record { is = all.0; output = all.1.0; kept = all.1.1.0; long = all.1.1.1.0; room = all.1.1.1.1.0; singly = all.1.1.1.1.1.0; blocks = all.1.1.1.1.1.1.0; waits = all.1.1.1.1.1.1.1.0; clears = all.1.1.1.1.1.1.1.1.0; serves = all.1.1.1.1.1.1.1.1.1.0; holds = all.1.1.1.1.1.1.1.1.1.1 }
 
 pub returns-then-spoilt-2 : goal.returns-then-spoilt-2
 unfolding run_of
 returns-then-spoilt-2 c =
     let a = c.args in
-    let all = ends a.site a.state a.records.now a.out.now 13 _ c.stopped-then-spoilt-2.ensures
+    let all = ends a.site a.state a.records.now a.out.now SpoiltState _ c.stopped-then-spoilt-2.ensures
     (rw (site-good (goal.at.returns-then-spoilt-2 c).Else-spoilt, sym (state_is (goal.at.returns-then-spoilt-2 c).After-spoilt-2) ∙ c.if-spoilt-2.true)) in record { is = all.0; output = all.1.0; kept = all.1.1.0; long = all.1.1.1.0; room = all.1.1.1.1.0; singly = all.1.1.1.1.1.0; blocks = all.1.1.1.1.1.1.0; waits = all.1.1.1.1.1.1.1.0; clears = all.1.1.1.1.1.1.1.1.0; serves = all.1.1.1.1.1.1.1.1.1.0; holds = all.1.1.1.1.1.1.1.1.1.1 }
 
 pub run_all-requires : goal.run_all-requires

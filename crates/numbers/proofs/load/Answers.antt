@@ -2,10 +2,9 @@
 use lib.ListN.{length-drop, length, drop}
 use Rattle.numbers.proofs.WordLaws.{words_high}
 use native.Mathlib.Numerals.{add-one}
-use lib.Seq.{take-suc, take-suc-set, get_or-drop, take_all}
+use lib.Seq.{take-suc, take-suc-set, get_or-drop}
 use borrow.Author.Rules.{rules}
 use native.Mathlib.Omega.{arith}
-use mathlib.Core.Path.{◌≡◌, sym, ◌∙◌}
 use Prim.Native.Nat.{◌<◌}
 use Rattle.numbers.specs.Words.{words}
 use Rattle.numbers.proofs.load.Goals as goal
@@ -20,9 +19,3 @@ loop-i-preserved c =
       rw (add-one, take-suc-set c.loop-i.dst c.loop-i.i, take-suc (drop a.at (words a.s.now)) c.loop-i.i 0, get_or-drop)
           (cc),
     )
-
-pub returns : goal.returns
-returns c =
-    let a = c.args in
-    let e : c.loop-i.i ≡ length a.dst.now = search rules in
-    sym (take_all c.loop-i.i c.loop-i.dst (search rules)) ∙ c.loop-i.invariant.2 ∙ rw e

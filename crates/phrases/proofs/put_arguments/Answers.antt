@@ -5,8 +5,8 @@ use Rattle.phrases.proofs.put_arguments.Goals as goal
 
 pub returns-then-count-eq1 : goal.returns-then-count-eq1
 unfolding arguments_text
-returns-then-count-eq1 c = rw (eq-eqb _ _ c.if-count-eq1.true) c.put_bytes.ensures
+returns-then-count-eq1 c = rw (eq-eqb _ _ c.if-count-eq1.true) c.put.ensures
 
 pub returns : goal.returns
 unfolding arguments_text
-returns c = rw (ne_eqb _ _ c.if-count-eq1.false) c.put_bytes-2.ensures
+returns c = rw (ne_eqb _ _ c.if-count-eq1.false) c.put-2.ensures

@@ -1,15 +1,19 @@
 -- The table is the definition's.
-use Rattle.phrases.proofs.DayNames.{named, three_letters, no_name}
-use mathlib.Core.Path.{sym}
+use Rattle.std.proofs.lemmas.Grind.{common_steps}
+use Rattle.phrases.proofs.DayNames.{named, no_name}
+use Rattle.phrases.specs.Phrases.{day_names}
+use Prim.Native.Nat.{◌<◌}
+use lib.ListN.{get_or}
+use mathlib.Core.List.{[]}
+use mathlib.Core.Path.{◌≡◌}
+use native.Mathlib.Omega.{arith}
 use Rattle.phrases.proofs.put_day_name.Goals as goal
 
-pub returns-then-d-ge8 : goal.returns-then-d-ge8
-returns-then-d-ge8 c =
-    rw (no_name c.args.day c.if-d-ge8.true) c.put_byte.ensures
+pub returns-in-Some : goal.returns-in-Some
+returns-in-Some c =
+    let l : c.args.day < 8 = grind (arith, common_steps, c.in-Some.ensures.lookup) in
+    let e : c.in-Some.name.now ≡ get_or day_names c.args.day [] = grind (arith, common_steps, c.in-Some.ensures.lookup) in
+    rw (named c.args.day l, ← e) c.put.ensures
 
-pub slice_bounds-put_bytes-end : goal.slice_bounds-put_bytes-end
-slice_bounds-put_bytes-end c = sym (three_letters c.args.day c.if-d-ge8.false)
-
-pub returns : goal.returns
-returns c =
-    rw (named c.args.day c.if-d-ge8.false) c.put_bytes.ensures
+pub returns-in-None : goal.returns-in-None
+returns-in-None c = rw (no_name c.args.day (omega (arith, c.in-None.ensures.lookup))) c.put_byte.ensures

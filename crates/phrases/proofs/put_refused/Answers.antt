@@ -1,17 +1,10 @@
 -- One text behind the other.
-use Prim.Native.Nat.{◌<◌}
-use borrow.Author.Rules.{rules}
-use lib.ListN.{length}
-use Rattle.text.specs.Put.{farthest}
-use Rattle.text.proofs.PutLaws.{put_then}
+use Rattle.text.proofs.PutsLaws.{puts_then}
 use Rattle.phrases.specs.Phrases.{refused_line}
 use Rattle.phrases.proofs.put_refused.Goals as goal
-use Rattle.phrases.proofs.put_refused.Goals.{After-put_bytes-p}
-
-bounded : (c : After-put_bytes-p) → length c.args.out.now < farthest
-bounded c = search rules
 
 pub returns : goal.returns
 unfolding refused_line
 returns c =
-    put_then (bounded (goal.at.returns c).After-put_bytes-p) c.put_bytes-p.ensures (λ l. put_then l c.put_decimal-q.ensures (λ _. c.put_byte.ensures))
+    rw (← c.number.ensures)
+    (puts_then c.put.ensures (puts_then c.put_decimal.ensures c.put_byte.ensures))

@@ -4,38 +4,34 @@ use Rattle.plan.proofs.InForceLaws.{is_in_force}
 use Rattle.plan.specs.InForce.{takes_over, in_force_of}
 use Rattle.plan.specs.Entry.{entry_of}
 use Rattle.plan.specs.declared.Entry.{Entry}
-use Prim.Native.Nat.{◌<◌, ◌-◌}
+use Prim.Native.Nat.{◌<◌}
 use mathlib.Core.Path.{◌≡◌, ap, sym, ◌∙◌}
-use native.Mathlib.Omega.{arith}
 use borrow.Author.Rules.{rules}
 use Rattle.plan.proofs.in_force.Goals as goal
 use Rattle.plan.proofs.in_force.Goals.{After-loop-i, then-takes_over, else-takes_over}
 
 found : (c : After-loop-i)
-    → let a = c.args in c.loop-i.best ≡ in_force_of a.rows.now a.count a.day a.minute
+    → let a = c.args in c.loop-i.best ≡ in_force_of a.plan.numbers.now a.plan.count a.day a.minute
 unfolding in_force_of
 found c =
     let a = c.args in
-    sym (ends a.rows.now a.day a.minute c.loop-i.best c.loop-i.start c.loop-i.i _ c.loop-i-test.false) ∙ c.loop-i.invariant.1
-
-pub loop-i-init : goal.loop-i-init
-loop-i-init c = let n = c.args.count in let e : n - 0 ≡ n = omega arith in (search rules, rw e)
+    sym (ends a.plan.numbers.now a.day a.minute c.loop-i.best c.loop-i.start c.loop-i.i _ c.loop-i-test.false) ∙ c.loop-i.invariant.1
 
 pub loop-i-preserved : goal.loop-i-preserved
 loop-i-preserved c =
     let a = c.args in
     let e = c.entry_at-e.ensures in
-    let l : c.loop-i.i < a.count = search rules in
-    let same : c.takes_over.result ≡ takes_over (entry_of a.rows.now c.loop-i.i) a.day a.minute c.loop-i.best c.loop-i.start =
+    let l : c.loop-i.i < a.plan.count = search rules in
+    let same : c.takes_over.result ≡ takes_over (entry_of a.plan.numbers.now c.loop-i.i) a.day a.minute c.loop-i.best c.loop-i.start =
     c.takes_over.ensures ∙ ap (λ (x : Entry). takes_over x a.day a.minute c.loop-i.best c.loop-i.start) e in (
       search rules,
       elim c.if-takes_over.branch [
         | then-takes_over w ↦ rw (w.best-is, w.start-is, ap (λ (x : Entry). x.start) e)
-            (sym (takes a.rows.now a.day a.minute c.loop-i.best c.loop-i.start c.loop-i.i _ l (sym same ∙ w.if-takes_over.true)) ∙ c.loop-i.invariant.1)
+            (sym (takes a.plan.numbers.now a.day a.minute c.loop-i.best c.loop-i.start c.loop-i.i _ l (sym same ∙ w.if-takes_over.true)) ∙ c.loop-i.invariant.1)
         | else-takes_over w ↦ rw (w.best-is, w.start-is)
-            (sym (skips a.rows.now a.day a.minute c.loop-i.best c.loop-i.start c.loop-i.i _ l (sym same ∙ w.if-takes_over.false)) ∙ c.loop-i.invariant.1)
+            (sym (skips a.plan.numbers.now a.day a.minute c.loop-i.best c.loop-i.start c.loop-i.i _ l (sym same ∙ w.if-takes_over.false)) ∙ c.loop-i.invariant.1)
       ],
     )
 
 pub returns : goal.returns
-returns c = let a = c.args in (record { is = found c; latest = rw (found c) (is_in_force a.rows.now a.count a.day a.minute) })
+returns c = let a = c.args in (record { is = found c; latest = rw (found c) (is_in_force a.plan.numbers.now a.plan.count a.day a.minute) })

@@ -5,7 +5,4 @@ use mathlib.Core.Path.{◌≡◌}
 use Rattle.plan.proofs.in_force.Given as goal
 
 abbrev pub invariant-loop-i : goal.invariant-loop-i
-invariant-loop-i l = (l.i ≤ l.count) × (in_force_from l.rows l.day l.minute l.best l.start l.i (l.count - l.i) ≡ in_force_from l.rows l.day l.minute 0 0 0 l.count)
-
-abbrev pub decreases-loop-i : goal.decreases-loop-i
-decreases-loop-i l = l.count - l.i
+invariant-loop-i l = (l.i ≤ l.plan.count) × (in_force_from l.plan.numbers.now l.day l.minute l.best l.start l.i (l.plan.count - l.i) ≡ in_force_from l.plan.numbers.now l.day l.minute 0 0 0 l.plan.count)

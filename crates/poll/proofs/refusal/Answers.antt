@@ -1,7 +1,6 @@
 -- The checks in their order, each by the call or the test that makes it.
 use borrow.Author.Tests.{eq-eqb, ne_eqb}
 use Rattle.poll.specs.Poll.{refusal_of}
-use Rattle.state.proofs.spoilt.Reads as spoilt-reads'
 use Rattle.poll.proofs.refusal.Goals as goal
 
 pub returns-then-spoilt : goal.returns-then-spoilt

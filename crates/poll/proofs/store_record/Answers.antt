@@ -13,8 +13,8 @@ returns c =
     let a = c.args in
     let last = a.periods.last in
     c.store_mainline.ensures
-    ∙ ap (λ (l : List ℕ). sets l (6 + a.n * 4 + 2) (bytes (rows_from (mainline_row last) 0 a.m)))
+    ∙ ap (λ (l : List ℕ). sets l (6 + a.shape.lanes * 4 + 2) (bytes (rows_from (mainline_row last) 0 a.shape.mainline)))
     (c.store-2.ensures
-    ∙ ap (λ (l : List ℕ). sets l (6 + a.n * 4) (bytes (a.m ∷ [])))
-    (c.store_metered.ensures ∙ ap (λ (l : List ℕ). sets l 6 (bytes (rows_from (metered_row last) 0 a.n))) c.store.ensures))
-    ∙ parts_stored a.periods a.n a.m a.out.now (6 + a.n * 4) (6 + a.n * 4 + 2) refl refl
+    ∙ ap (λ (l : List ℕ). sets l (6 + a.shape.lanes * 4) (bytes (a.shape.mainline ∷ [])))
+    (c.store_metered.ensures ∙ ap (λ (l : List ℕ). sets l 6 (bytes (rows_from (metered_row last) 0 a.shape.lanes))) c.store.ensures))
+    ∙ parts_stored a.periods a.shape.lanes a.shape.mainline a.out.now (6 + a.shape.lanes * 4) (6 + a.shape.lanes * 4 + 2) refl refl

@@ -5,14 +5,14 @@ use mathlib.Core.Path.{◌≡◌, ap, ◌∙◌}
 use native.Mathlib.Omega.{arith}
 use Rattle.tick.specs.declared.Ticked.{Ticked}
 use Rattle.rate_sheet.proofs.cycle.Goals as goal
-use Rattle.rate_sheet.proofs.cycle.Goals.{After-tick-ticked}
+use Rattle.rate_sheet.proofs.cycle.Goals.{After-tick}
 
-ticks : (c : After-tick-ticked) → let a = c.args in
-    c.tick-ticked.result.cycle ≡ (first_tick a.vehicles a.rate).cycle
+ticks : (c : After-tick) → let a = c.args in
+    c.tick.result.cycle ≡ (first_tick a.vehicles a.rate).cycle
 unfolding first_tick
 ticks c =
-    ap (λ (t : Ticked). t.cycle) c.tick-ticked.ensures.is
-    ∙ rw (c.asking.ensures, c.state-1.given, c.power_up-up.ensures.is, c.ramp-site.ensures)
+    ap (λ (t : Ticked). t.cycle) c.tick.ensures.is
+    ∙ rw (c.asking.ensures, c.power_up.ensures.is, c.ramp-site.ensures)
 
 pub returns : goal.returns
 returns c =

@@ -4,4 +4,4 @@ use Rattle.readings.proofs.refused.Goals as goal
 
 pub returns : goal.returns
 unfolding refused_readings
-returns c = rw c.no_reading-none.ensures
+returns c = rw c.no_reading.ensures

@@ -7,6 +7,3 @@ use Rattle.record_stream.proofs.move_front.Given as goal
 abbrev pub invariant-loop-i : goal.invariant-loop-i
 invariant-loop-i l =
     (l.i ≤ l.to - l.from) × (length l.buffer ≡ length l.initial.buffer) × (take l.i l.buffer ≡ take l.i (drop l.from l.initial.buffer)) × (drop l.i l.buffer ≡ drop l.i l.initial.buffer)
-
-abbrev pub decreases-loop-i : goal.decreases-loop-i
-decreases-loop-i l = l.to - l.from - l.i

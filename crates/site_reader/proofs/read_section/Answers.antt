@@ -1,5 +1,5 @@
 -- Each return is one case of `section_of`, by its law in `SectionLaws`. The numbers loaded into the front of dst are the section's.
-use Rattle.site.proofs.SectionLaws.{never, bad_number_positive, no_count, bad_count, no_rows, bad_number, good}
+use Rattle.site.proofs.SectionLaws.{no_count, bad_count, no_rows, bad_number, good}
 use Rattle.site.proofs.Sizes.{fits}
 use Rattle.site.specs.Reading.{numbers_of}
 use Rattle.ranges.specs.Sections.{allowed_of, size_of, first_bad}
@@ -13,7 +13,6 @@ use mathlib.Core.List.{List, ◌++◌}
 use mathlib.Core.Bool.{true}
 use mathlib.Core.Path.{◌≡◌, ap, ap₂, sym, ◌∙◌}
 use native.Mathlib.Omega.{arith}
-use borrow.Author.Rules.{rules}
 use Rattle.site_reader.proofs.read_section.Goals as goal
 use Rattle.site_reader.proofs.read_section.Goals.{After-first_bad-bad, After-load, After-size-k, Else-not-allowed}
 
@@ -94,22 +93,20 @@ looked c =
 
 pub returns-then-total-at : goal.returns-then-total-at
 returns-then-total-at c =
-    let a = c.args in (record { found = c.not_found.ensures ∙ sym (no_count a.section _ (words a.src.now) a.at (omega (arith, words_low a.src.now))); filled = λ z. absurd (never _ _ _ c.not_found.ensures (search rules) z) })
+    let a = c.args in (record { found = sym (no_count a.section _ (words a.src.now) a.at (omega (arith, words_low a.src.now))); filled = tt })
 
 pub returns-then-not-allowed : goal.returns-then-not-allowed
 returns-then-not-allowed c =
     let a = c.args in (record {
-      found = c.not_found-then-not-allowed.ensures
-          ∙ sym (bad_count a.section _ (words a.src.now) a.at (omega (arith, words_high a.src.now)) _ c.word-count.ensures (sym c.allowed.ensures ∙ not-true _ c.if-not-allowed.true-raw));
-      filled = λ z. absurd (never _ _ _ c.not_found-then-not-allowed.ensures (search rules) z);
+      found = sym (bad_count a.section _ (words a.src.now) a.at (omega (arith, words_high a.src.now)) _ c.word-count.ensures (sym c.allowed.ensures ∙ not-true _ c.if-not-allowed.true-raw));
+      filled = tt;
     })
 
 pub returns-then-total-at-2 : goal.returns-then-total-at-2
 returns-then-total-at-2 c =
     let a = c.args in (record {
-      found = c.not_found-then-total-at-2.ensures
-          ∙ sym (no_rows a.section _ (words a.src.now) a.at (omega (arith, words_high a.src.now)) _ c.word-count.ensures (is-allowed (goal.at.returns-then-total-at-2 c).Else-not-allowed) _ c.size-k.ensures (omega (arith, words_low a.src.now)));
-      filled = λ z. absurd (never _ _ _ c.not_found-then-total-at-2.ensures (search rules) z);
+      found = sym (no_rows a.section _ (words a.src.now) a.at (omega (arith, words_high a.src.now)) _ c.word-count.ensures (is-allowed (goal.at.returns-then-total-at-2 c).Else-not-allowed) _ c.size-k.ensures (omega (arith, words_low a.src.now)));
+      filled = tt;
     })
 
 pub slice_bounds-load-end : goal.slice_bounds-load-end
@@ -129,13 +126,11 @@ slice_bounds-first_bad-end-2 c = sym (ap length (take_at c.load.new.dst _ _ (loa
 
 pub returns-then-bad-k : goal.returns-then-bad-k
 returns-then-bad-k c =
-    let a = c.args in
-    let b = c.bad_number.ensures in (record {
-      found = c.not_found-then-bad-k.ensures
-          ∙ rw b
+    let a = c.args in (record {
+      found = rw c.bad_number.ensures
           (sym (bad_number a.section _ (words a.src.now) a.at (omega (arith, words_high a.src.now)) _ c.word-count.ensures (is-allowed (goal.at.returns-then-bad-k c).Else-not-allowed) _ c.size-k.ensures
           (omega (arith, words_high a.src.now)) _ (looked (goal.at.returns-then-bad-k c).After-first_bad-bad) c.if-bad-k.true));
-      filled = λ z. absurd (never _ _ _ c.not_found-then-bad-k.ensures (rw b (bad_number_positive a.section)) z);
+      filled = tt;
     })
 
 pub returns : goal.returns
@@ -143,5 +138,5 @@ returns c =
     let a = c.args in (record {
       found = sym (good a.section _ (words a.src.now) a.at (omega (arith, words_high a.src.now)) _ c.word-count.ensures (is-allowed (goal.at.returns c).Else-not-allowed) _ c.size-k.ensures
           (omega (arith, words_high a.src.now)) _ (looked (goal.at.returns c).After-first_bad-bad) c.if-bad-k.false);
-      filled = λ z. ap₂ (λ (x : List ℕ) (k : ℕ). x ++ drop k a.dst.now) (loaded (goal.at.returns c).After-load).1 (size_is (goal.at.returns c).After-size-k);
+      filled = ap₂ (λ (x : List ℕ) (k : ℕ). x ++ drop k a.dst.now) (loaded (goal.at.returns c).After-load).1 (size_is (goal.at.returns c).After-size-k);
     })

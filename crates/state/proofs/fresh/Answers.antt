@@ -4,4 +4,4 @@ use Rattle.state.proofs.fresh.Goals as goal
 
 pub returns : goal.returns
 unfolding fresh_state
-returns c = rw (c.entered-lanes.ensures, c.none.ensures, c.no_periods.ensures)
+returns c = rw (c.entered.ensures, c.none.ensures, c.no_periods.ensures)

@@ -15,7 +15,7 @@ passed s = let a = s.args in accepted a.site a.state a.input s.requires
 
 counted_at_after_finished : (c : After-finished) → let a = c.args in c.after_tick-counted.result ≡ counted_in a.site a.state a.input
 unfolding counted_in
-counted_at_after_finished c = c.after_tick-counted.ensures.is ∙ rw c.timings_of-t.ensures
+counted_at_after_finished c = c.after_tick-counted.ensures.is ∙ rw c.shape_of-shape.ensures
 
 is : (c : After-finished) → let a = c.args in c.finished.result ≡ accepted_tick a.site a.state a.input
 is c =
@@ -32,7 +32,7 @@ after_tick-counted-requires c =
     let n = metered_lanes a.site in
     let m = mainline_lanes a.site in
     let p = passed (goal.at.after_tick-counted-requires c).Start in
-    rw c.timings_of-t.ensures (good_periods a.state.periods n m (state_good a.state (shape_of a.site) p.state).periods, p.samples)
+    rw c.shape_of-shape.ensures (good_periods a.state.periods n m (state_good a.state (shape_of a.site) p.state).periods, p.samples)
 
 pub decision_of-decided-requires : goal.decision_of-decided-requires
 decision_of-decided-requires c =
@@ -44,7 +44,7 @@ finished-requires c =
     let a = c.args in
     let n = metered_lanes a.site in
     let m = mainline_lanes a.site in
-    periods_room c.after_tick-counted.result n m (periods_good c.after_tick-counted.result n m (rw c.timings_of-t.ensures at c.after_tick-counted.ensures.kept))
+    periods_room c.after_tick-counted.result n m (periods_good c.after_tick-counted.result n m (rw c.shape_of-shape.ensures at c.after_tick-counted.ensures.kept))
 
 pub returns : goal.returns
 returns c =

@@ -6,7 +6,7 @@ use Rattle.site.proofs.TimingLaws.{timings_good}
 use Rattle.state.specs.State.{fresh_state}
 use Rattle.state.proofs.StateLaws.{good_state, fresh_good}
 use mathlib.Core.Path.{sym, ◌∙◌}
-use native.Mathlib.Omega.{arith}
+use Rattle.std.proofs.lemmas.Option.{none-some}
 use Rattle.tick.proofs.power_up.Goals as goal
 
 pub returns-then-spoilt : goal.returns-then-spoilt
@@ -15,7 +15,7 @@ returns-then-spoilt c =
     let lists = over_lists c.args.site in
     record {
       is = rw (← c.spoilt.ensures, c.if-spoilt.true, c.zero.ensures);
-      kept = λ z. absurd (omega arith);
+      kept = λ z. absurd (none-some _ (sym z));
       waits = lists.0;
       clears = lists.1.0;
       serves = lists.1.1.0;

@@ -1,6 +1,5 @@
 -- The code's tests are the definition's, in its order.
 use Rattle.tick.specs.Checks.{tick_refusal}
-use Rattle.state.proofs.spoilt.Reads as spoilt-reads'
 use Rattle.tick.proofs.refusal_of.Goals as goal
 
 pub returns-then-spoilt : goal.returns-then-spoilt

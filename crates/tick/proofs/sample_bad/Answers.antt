@@ -6,6 +6,6 @@ pub returns-then-samples_bad : goal.returns-then-samples_bad
 unfolding sample_bad
 returns-then-samples_bad c = rw (← c.samples_bad.ensures, c.if-samples_bad.true)
 
-pub returns : goal.returns
+pub returns-else-samples_bad : goal.returns-else-samples_bad
 unfolding sample_bad
-returns c = rw (← c.samples_bad.ensures, c.if-samples_bad.false) c.calls_bad.ensures
+returns-else-samples_bad c = rw (← c.samples_bad.ensures, c.if-samples_bad.false) c.calls_bad.ensures

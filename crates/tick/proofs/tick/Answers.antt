@@ -1,20 +1,21 @@
 -- The checks, then the refused or the accepted tick.
+use Rattle.std.specs.Prelude.{None}
+use Rattle.std.proofs.lemmas.Option.{none-some}
 use Rattle.tick.specs.declared.Ticked.{Ticked}
-use Rattle.tick.specs.Tick.{refused_tick, tick_of}
+use Rattle.tick.specs.Tick.{refused_tick, tick_by, tick_of}
 use Rattle.tick.proofs.TickLaws.{accepted, tick_day, tick_entry, tick_levelled, tick_steered, tick_cycle, tick_searched, tick_bypassed}
 use Rattle.tick.proofs.ServingLaws.{over_lists}
-use borrow.Author.Tests.{ne_eqb, eq-eqb}
 use mathlib.Core.Path.{◌≡◌, ap, sym, ◌∙◌}
 use Rattle.tick.proofs.tick.Goals as goal
 
-pub returns-then-refusal-ne0 : goal.returns-then-refusal-ne0
-unfolding tick_of refused_tick
-returns-then-refusal-ne0 c =
-    let never : c.refused.result.refusal ≡ 0 → ⊥ =
-    λ z. c.if-refusal-ne0.true (sym (ap (λ (t : Ticked). t.refusal) c.refused.ensures) ∙ z) in
+pub returns-in-Some : goal.returns-in-Some
+unfolding tick_of tick_by refused_tick
+returns-in-Some c =
+    let never : c.refused.result.refusal ≡ None → ⊥ =
+    λ z. none-some _ (sym z ∙ ap (λ (t : Ticked). t.refusal) c.refused.ensures) in
     let lists = over_lists c.args.site in
     record {
-      is = rw (← c.refusal_of-refusal.ensures, ne_eqb _ _ c.if-refusal-ne0.true) c.refused.ensures;
+      is = rw (← c.refusal_of.ensures, c.in-Some.is) c.refused.ensures;
       kept = λ z. absurd (never z);
       day = λ z. absurd (never z);
       entry = λ z. absurd (never z);
@@ -30,16 +31,16 @@ returns-then-refusal-ne0 c =
     }
 
 pub advance-requires : goal.advance-requires
-advance-requires c = sym c.refusal_of-refusal.ensures ∙ c.if-refusal-ne0.false
+advance-requires c = sym c.refusal_of.ensures ∙ c.in_default.is
 
 pub returns : goal.returns
-unfolding tick_of
+unfolding tick_of tick_by
 returns c =
     let a = c.args in
-    let passed = accepted a.site a.state a.input (sym c.refusal_of-refusal.ensures ∙ c.if-refusal-ne0.false) in
+    let passed = accepted a.site a.state a.input (sym c.refusal_of.ensures ∙ c.in_default.is) in
     let lists = over_lists a.site in
     record {
-      is = rw (← c.refusal_of-refusal.ensures, eq-eqb _ _ c.if-refusal-ne0.false) c.advance.ensures.is;
+      is = rw (← c.refusal_of.ensures, c.in_default.is) c.advance.ensures.is;
       kept = λ _. c.advance.ensures.kept;
       day = λ _. rw c.advance.ensures.is (tick_day a.site a.state a.input passed);
       entry = λ _. rw c.advance.ensures.is (tick_entry a.site a.state a.input passed);

@@ -9,10 +9,10 @@ pub returns-then-bytes-size : goal.returns-then-bytes-size
 unfolding is_record
 returns-then-bytes-size c =
     let a = c.args in
-    rw (ne_eqb (length a.bytes.now) (record_size a.n a.m) (λ e. c.if-bytes-size.true (e ∙ sym c.size.ensures)))
+    rw (ne_eqb (length a.bytes.now) (record_size a.shape.lanes a.shape.mainline) (λ e. c.if-bytes-size.true (e ∙ sym c.size.ensures)))
 
 pub returns : goal.returns
 unfolding is_record
 returns c =
     let a = c.args in
-    c.counts_right.ensures ∙ rw (eq-eqb (length a.bytes.now) (record_size a.n a.m) (c.if-bytes-size.false ∙ c.size.ensures))
+    c.counts_right.ensures ∙ rw (eq-eqb (length a.bytes.now) (record_size a.shape.lanes a.shape.mainline) (c.if-bytes-size.false ∙ c.size.ensures))

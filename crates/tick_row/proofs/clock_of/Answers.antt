@@ -4,4 +4,5 @@ use Rattle.tick_row.proofs.clock_of.Goals as goal
 
 pub returns : goal.returns
 unfolding clock_of
-returns c = simp (c.long_of.ensures, c.number_at-5.ensures, c.number_at-4.ensures, c.number_at-3.ensures, c.number_at-2.ensures, c.number_at.ensures)
+returns g c row is =
+    simp (c.long_of.ensures, is _ _ c.number-5.ensures, is _ _ c.number-4.ensures, is _ _ c.number-3.ensures, is _ _ c.number-2.ensures, is _ _ c.number.ensures)

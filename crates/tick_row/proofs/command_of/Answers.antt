@@ -4,4 +4,4 @@ use Rattle.tick_row.proofs.command_of.Goals as goal
 
 pub returns : goal.returns
 unfolding command_of
-returns c = simp (c.number_at-3.ensures, c.number_at-2.ensures, c.number_at.ensures)
+returns g c row is = simp (is _ _ c.number-3.ensures, is _ _ c.number-2.ensures, is _ _ c.number.ensures)

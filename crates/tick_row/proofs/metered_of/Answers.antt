@@ -4,4 +4,4 @@ use Rattle.tick_row.proofs.metered_of.Goals as goal
 
 pub returns : goal.returns
 unfolding metered_of
-returns c = simp (c.of_metered-2.ensures, c.of_metered.ensures)
+returns g c row is = simp (c.of_metered-2.ensures row is, c.of_metered.ensures row is)

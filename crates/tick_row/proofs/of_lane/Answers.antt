@@ -5,8 +5,8 @@ use Rattle.tick_row.proofs.of_lane.Goals as goal
 
 pub returns-then-lanes-i : goal.returns-then-lanes-i
 unfolding of_lane
-returns-then-lanes-i c = search tests
+returns-then-lanes-i g c row is = search tests
 
 pub returns : goal.returns
 unfolding of_lane
-returns c = search (tests, c.number_at.ensures)
+returns g c row is = search (tests, is _ _ c.number.ensures)

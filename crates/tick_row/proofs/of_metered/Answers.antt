@@ -4,4 +4,4 @@ use Rattle.tick_row.proofs.of_metered.Goals as goal
 
 pub returns : goal.returns
 unfolding of_metered
-returns c = simp (c.of_lane-4.ensures, c.of_lane-3.ensures, c.of_lane-2.ensures, c.of_lane.ensures)
+returns g c row is = simp (c.of_lane-4.ensures row is, c.of_lane-3.ensures row is, c.of_lane-2.ensures row is, c.of_lane.ensures row is)

@@ -4,4 +4,4 @@ use Rattle.tick_text.proofs.put_heading.Goals as goal
 
 pub returns : goal.returns
 unfolding heading_line
-returns c = c.put_bytes.ensures
+returns c = c.put.ensures

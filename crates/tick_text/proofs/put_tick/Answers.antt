@@ -1,22 +1,20 @@
 -- The five parts of the line.
-use Rattle.text.proofs.PutLaws.{put_then}
+use Rattle.text.proofs.PutsLaws.{puts_then}
 use Rattle.tick_text.proofs.LengthLaws.{Sized, rate_word, tick_most}
 use native.Mathlib.Omega.{arith}
 use Rattle.tick_text.specs.Lines.{tick_line}
-use borrow.Author.Rules.{rules}
 use Rattle.tick_text.proofs.put_tick.Goals as goal
 use Rattle.tick_text.proofs.put_tick.Goals.{Start}
 
 -- The numbers of the line, each where the machine's facts of the parameters have it.
 sized : (start : Start) → Sized start.args.number start.args.t
 sized start =
-    let t = start.well_formed.1.1.1.1.0.1.1 in
+    let t = start.well_formed.1.1.1.0.1.1 in
     let group = t.1.0.1.1.0.1.1 in
     let shown = t.1.1.0.1.1 in
     let decision = t.1.1.1.0.1.1 in
     record {
       number = omega (arith, start.ranges.number.fits);
-      refusal = omega (arith, t.0.1);
       interval = omega (arith, group.0.1);
       age = omega (arith, group.1.0.1);
       sign = omega (arith, shown.1.1.0.1);
@@ -30,10 +28,10 @@ sized start =
 pub returns : goal.returns
 unfolding tick_line
 returns c = (record {
-  is = put_then (search rules) c.put_decimal-interval.ensures
-      (λ l. put_then l c.put_interval-lamps.ensures
-      (λ l. put_then l c.put_lamps-decided.ensures
-      (λ l. put_then l c.put_decided-end.ensures
-      (λ _. c.put_byte.ensures))));
+  is = puts_then c.put_decimal.ensures
+      (puts_then c.put_interval.ensures
+      (puts_then c.put_lamps.ensures
+      (puts_then c.put_decided.ensures
+      c.put_byte.ensures)));
   short = tick_most c.args.number c.args.t (sized (goal.at.returns c).Start) c.args.n;
 })

@@ -14,4 +14,4 @@ returns-then-date-gt1-2 c = rw (le-ltb _ _ c.if-date-gt1.false, lt-ltb _ _ c.if-
 pub returns : goal.returns
 unfolding day_before
 returns c =
-    rw (le-ltb _ _ c.if-date-gt1.false, le-ltb _ _ c.if-date-gt1-2.false, c.last_of-2.ensures, c.year_before.ensures)
+    rw (le-ltb _ _ c.if-date-gt1.false, le-ltb _ _ c.if-date-gt1-2.false, c.last_of-2.ensures, c.saturating_sub.ensures)

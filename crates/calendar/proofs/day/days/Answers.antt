@@ -11,6 +11,3 @@ returns-then-not-within c = rw (no_days c.args.year c.args.month (sym c.within.e
 
 pub month_length-requires : goal.month_length-requires
 month_length-requires c = ends months _ (sym c.within.ensures ∙ not-false _ c.if-not-within.false-raw)
-
-pub returns : goal.returns
-returns c = rw c.month_length.ensures

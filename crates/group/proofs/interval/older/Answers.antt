@@ -1,12 +1,11 @@
--- The code's tests are the definition's.
+-- One more, to the most that there is.
+use Prim.Native.Nat.{◌+◌, min}
+use mathlib.Core.Path.{◌≡◌, ◌∙◌}
+use native.Mathlib.Omega.{arith}
+use Rattle.loops.proofs.Cases.{one_more_to}
 use Rattle.group.specs.Intervals.{age_of}
-use Rattle.loops.proofs.Rules.{tests}
 use Rattle.group.proofs.interval.older.Goals as goal
 
-pub returns-then-age-lt-OLDEST : goal.returns-then-age-lt-OLDEST
+pub returns : goal.returns
 unfolding age_of
-returns-then-age-lt-OLDEST c = search tests
-
-pub returns-else-age-lt-OLDEST : goal.returns-else-age-lt-OLDEST
-unfolding age_of
-returns-else-age-lt-OLDEST c = search tests
+returns c = let e : c.min.result ≡ min (c.args.age + 1) 36000 = omega arith in e ∙ one_more_to 36000 c.args.age

@@ -1,18 +1,9 @@
--- The loop's invariant: what is left to look through answers as the whole does.
-use Rattle.group.specs.Range.{lane_spoilt_at}
-use Rattle.loops.proofs.AnyLaws.{left_at_start, left_found, left_turn, left_none}
-use mathlib.Core.Path.{sym, ◌∙◌}
+-- The closure says of each lane whether it is one.
+use mathlib.Core.Path.{refl}
 use borrow.Author.Rules.{rules}
+use Rattle.loops.proofs.RangeLaws.{any_in_range}
+use Rattle.group.specs.Range.{lane_spoilt_at}
 use Rattle.group.proofs.range.any_lane_spoilt.Goals as goal
 
-pub loop-i-init : goal.loop-i-init
-loop-i-init c = left_at_start (lane_spoilt_at c.args.interval c.args.s c.args.n) 4
-
-pub returns-then-lane_spoilt_at : goal.returns-then-lane_spoilt_at
-returns-then-lane_spoilt_at c = left_found c.loop-i.invariant (search rules) (sym c.lane_spoilt_at.ensures ∙ c.if-lane_spoilt_at.true)
-
-pub loop-i-preserved : goal.loop-i-preserved
-loop-i-preserved c = left_turn c.loop-i.invariant (search rules) (sym c.lane_spoilt_at.ensures ∙ c.if-lane_spoilt_at.false)
-
 pub returns : goal.returns
-returns c = left_none c.loop-i.invariant (search rules)
+returns c = any_in_range (lane_spoilt_at c.args.interval c.args.s c.args.n) 4 _ _ _ c.any.ensures.ran refl (λ x b q k. search rules)

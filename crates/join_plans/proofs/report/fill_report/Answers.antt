@@ -6,7 +6,7 @@ use native.Mathlib.Omega.{arith}
 use borrow.Author.Rules.{rules}
 use lib.ListN.{length, drop}
 use Rattle.text.specs.Put.{farthest}
-use Rattle.text.proofs.PutLaws.{put_as, put_front}
+use Rattle.text.proofs.PutsLaws.{puts_as, puts_front}
 use Rattle.joining.specs.declared.PlanList.{PlanList}
 use Rattle.join_plans.specs.JoinedSite.{plan_of}
 use Rattle.join_plans.specs.Report.{report_of}
@@ -22,4 +22,4 @@ returns c =
     let same = ap₂ (λ (x y : PlanList). report_of name x other y) c.plan_of.ensures c.plan_of-2.ensures in
     let room : 133456 ≤ length a.out.now = search rules in
     let l : length a.out.now < farthest = search rules in
-    let f = put_front l (omega (arith, report_most name a.site other a.works c.requires)) (put_as same c.put_report.ensures) in (record { count = f.0; buffer = f.1 ∙ ap (λ n. text ++ drop n a.out.now) (sym f.0) })
+    let f = puts_front l c.new-text.ensures.bytes c.new-text.ensures.end (omega (arith, report_most name a.site other a.works c.requires)) (puts_as same c.put_report.ensures) in (record { count = f.0; buffer = search rules ∙ f.1 ∙ ap (λ n. text ++ drop n a.out.now) (sym f.0) })

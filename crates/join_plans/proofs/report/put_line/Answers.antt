@@ -1,21 +1,14 @@
 -- The first entry that covers it is asked for; where there is none, nothing is said.
-use Prim.Native.Nat.{◌≤◌}
-use borrow.Author.Rules.{rules}
-use Rattle.text.specs.Put.{farthest}
-use Rattle.text.proofs.PutLaws.{put_as, put_nothing}
+use Rattle.text.proofs.PutsLaws.{puts_as, puts_nothing}
 use Rattle.join_plans.proofs.ReportLaws.{no_line, one_line}
 use Rattle.join_plans.proofs.report.put_line.Goals as goal
-use Rattle.join_plans.proofs.report.put_line.Goals.{Start}
-
-place-fits : (s : Start) → s.args.at ≤ farthest
-place-fits s = search rules
 
 pub returns-then-place-eq0 : goal.returns-then-place-eq0
 returns-then-place-eq0 c =
     let a = c.args in
-    put_as (no_line a.name.now a.first a.other.now a.second a.i _ c.entry_at-e.ensures _ c.covering-place.ensures.is c.if-place-eq0.true) (put_nothing _ _ (place-fits (goal.at.returns-then-place-eq0 c).Start))
+    puts_as (no_line a.name.now a.first a.other.now a.second a.i _ c.entry_at-e.ensures _ c.covering-place.ensures.is c.if-place-eq0.true) puts_nothing
 
 pub returns : goal.returns
 returns c =
     let a = c.args in
-    put_as (one_line a.name.now a.first a.other.now a.second a.i _ c.entry_at-e.ensures _ c.covering-place.ensures.is c.if-place-eq0.false _ c.entry_at-by.ensures) c.put_dropped.ensures
+    puts_as (one_line a.name.now a.first a.other.now a.second a.i _ c.entry_at-e.ensures _ c.covering-place.ensures.is c.if-place-eq0.false _ c.entry_at-by.ensures) c.put_dropped.ensures

@@ -1,20 +1,12 @@
 -- One text behind the other.
-use Prim.Native.Nat.{◌<◌}
-use borrow.Author.Rules.{rules}
-use lib.ListN.{length}
-use Rattle.text.specs.Put.{farthest}
-use Rattle.text.proofs.PutLaws.{put_then}
+use Rattle.text.proofs.PutsLaws.{puts_then}
 use Rattle.join_plans.specs.Report.{shares_text}
 use Rattle.join_plans.proofs.report.put_shares.Goals as goal
-use Rattle.join_plans.proofs.report.put_shares.Goals.{After-put_bytes-a}
-
-bounded : (c : After-put_bytes-a) → length c.args.out.now < farthest
-bounded c = search rules
 
 pub returns : goal.returns
 unfolding shares_text
 returns c =
-    put_then (bounded (goal.at.returns c).After-put_bytes-a) c.put_bytes-a.ensures
-    (λ l. put_then l c.put_of-b.ensures
-    (λ l. put_then l c.put_bytes-c.ensures
-    (λ l. put_then l c.put_of-d.ensures (λ _. c.put_bytes.ensures))))
+    puts_then c.put.ensures
+    (puts_then c.put_of.ensures
+    (puts_then c.put-2.ensures
+    (puts_then c.put_of-2.ensures c.put-3.ensures)))

@@ -8,8 +8,5 @@ use Rattle.joining.proofs.filling.keep.Given as goal
 
 abbrev pub invariant-loop-i : goal.invariant-loop-i
 invariant-loop-i l =
-    (l.i ≤ l.count) × ((l.list.count ≤ l.i)
-    × (with_all l.list (kept (entries_from l.rows l.i (l.count - l.i)) (entries_from l.second 0 l.others)) ≡ with_all (list_of []) (kept (entries_from l.rows 0 l.count) (entries_from l.second 0 l.others))))
-
-abbrev pub decreases-loop-i : goal.decreases-loop-i
-decreases-loop-i l = l.count - l.i
+    (l.list.count ≤ l.i)
+    × (with_all l.list (kept (entries_from l.first.rows l.i (l.first.count - l.i)) (entries_from l.second.rows 0 l.second.count)) ≡ with_all (list_of []) (kept (entries_from l.first.rows 0 l.first.count) (entries_from l.second.rows 0 l.second.count)))

@@ -1,11 +1,7 @@
 -- The released lane's greens rise by one.
 use Rattle.period.specs.Counting.{greens_at}
 use borrow.Author.Tests.{eq-eqb, ne_eqb}
-use native.Mathlib.Omega.{arith}
 use Rattle.period.proofs.count.greens_at.Goals as goal
-
-pub overflow_add-result : goal.overflow_add-result
-overflow_add-result c = omega (arith, c.requires.1)
 
 pub returns-then-released-i : goal.returns-then-released-i
 unfolding greens_at

@@ -7,9 +7,6 @@ pub returns-then-m-j : goal.returns-then-m-j
 unfolding lane_counted_at
 returns-then-m-j c = rw (le-ltb _ _ c.if-m-j.true) c.lane_counts-lane.ensures
 
-pub lane_counted-requires : goal.lane_counted-requires
-lane_counted-requires c = rw (c.lane_counts-lane.ensures, c.lane_sample.ensures) (c.requires c.if-m-j.false)
-
 pub returns : goal.returns
 unfolding lane_counted_at
 returns c = rw (lt-ltb _ _ c.if-m-j.false, ← c.lane_counts-lane.ensures, ← c.lane_sample.ensures) c.lane_counted.ensures

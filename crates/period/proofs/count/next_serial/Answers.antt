@@ -1,12 +1,13 @@
--- The code's tests are the definition's.
+-- At the last serial one more is itself.
+use native.Mathlib.Omega.{arith}
+use borrow.Author.Tests.{eqb-true, eqb-false}
+use lib.Dec.{eqb}
+use Rattle.loops.proofs.Cases.{by_test}
 use Rattle.period.specs.Counting.{next_serial}
-use Rattle.loops.proofs.Rules.{tests}
 use Rattle.period.proofs.count.next_serial.Goals as goal
 
-pub returns-then-serial-eq-LAST_SERIAL : goal.returns-then-serial-eq-LAST_SERIAL
+pub returns : goal.returns
 unfolding next_serial
-returns-then-serial-eq-LAST_SERIAL c = search tests
-
-pub returns-else-serial-eq-LAST_SERIAL : goal.returns-else-serial-eq-LAST_SERIAL
-unfolding next_serial
-returns-else-serial-eq-LAST_SERIAL c = search tests
+returns c =
+    let x = c.args.serial in
+    by_test (eqb x 4294967295) (λ e. rw e (omega (arith, eqb-true x 4294967295 e))) (λ e. rw e (omega (arith, eqb-false x 4294967295 e)))

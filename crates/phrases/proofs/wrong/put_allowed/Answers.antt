@@ -1,10 +1,9 @@
 -- The word, then the range.
 use Rattle.phrases.specs.Wrong.{allowed_text}
-use Rattle.text.proofs.PutLaws.{put_then}
-use borrow.Author.Rules.{rules}
+use Rattle.text.proofs.PutsLaws.{puts_then}
 use Rattle.phrases.proofs.wrong.put_allowed.Goals as goal
 
 pub returns : goal.returns
 unfolding allowed_text
 returns c =
-    put_then (search rules) c.put_bytes-p.ensures (λ _. c.put_range.ensures)
+    puts_then c.put.ensures c.put_range.ensures

@@ -5,4 +5,4 @@ use Rattle.plan.proofs.today.day_and_entry.Goals as goal
 
 pub returns : goal.returns
 returns c =
-    let a = c.args in (record { day = c.day_type-day.ensures.is; named = c.day_type-day.ensures.named; entry = c.in_force_now.ensures; recent = (λ ok. rw c.in_force_now.ensures (is_now (in_force_of a.plan.now a.entries) a.dates.now a.holidays a.today a.minute ok)) })
+    let a = c.args in (record { day = c.day_type-day.ensures.is; named = c.day_type-day.ensures.named; entry = c.in_force_now.ensures; recent = (λ ok. rw c.in_force_now.ensures (is_now (in_force_of a.plan.numbers.now a.plan.count) a.holidays.numbers.now a.holidays.count a.today a.minute ok)) })

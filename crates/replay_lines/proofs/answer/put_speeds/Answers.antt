@@ -1,15 +1,13 @@
 -- The readings' line where they are not refused, else no text.
-use Rattle.text.proofs.PutLaws.{put_nothing}
+use Rattle.text.proofs.PutsLaws.{puts_nothing}
 use Rattle.replay_lines.specs.Answer.{speeds_text}
-use borrow.Author.Tests.{ne_eqb, eq-eqb}
-use borrow.Author.Rules.{rules}
 use Rattle.replay_lines.proofs.answer.put_speeds.Goals as goal
 
-pub returns-then-readings-ne0 : goal.returns-then-readings-ne0
+pub returns-then-is_some : goal.returns-then-is_some
 unfolding speeds_text
-returns-then-readings-ne0 c = rw (← c.read-readings.ensures.is, ne_eqb _ _ c.if-readings-ne0.true) (put_nothing _ _ (search rules))
+returns-then-is_some c = rw (← c.read-readings.ensures.is, ← c.is_some.ensures, c.if-is_some.true) puts_nothing
 
 pub returns : goal.returns
 unfolding speeds_text
 returns c =
-    rw (← c.read-readings.ensures.is, eq-eqb _ _ c.if-readings-ne0.false) (rw c.shape_of.ensures at c.put_speeds.ensures)
+    rw (← c.read-readings.ensures.is, ← c.is_some.ensures, c.if-is_some.false) (rw c.shape_of.ensures at c.put_speeds.ensures)

@@ -2,7 +2,7 @@
 use Rattle.replay_lines.proofs.no_tick.put_reason.Goals as goal
 
 pub returns-in-Tick : goal.returns-in-Tick
-returns-in-Tick c = rw c.in-Tick.is c.put_bytes.ensures
+returns-in-Tick c = rw c.in-Tick.is c.put.ensures
 
 pub returns-in-Count : goal.returns-in-Count
 returns-in-Count c = rw c.in-Count.is c.put_count.ensures

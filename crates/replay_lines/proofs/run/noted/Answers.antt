@@ -1,16 +1,16 @@
--- The code's tests are the definition's.
-use borrow.Author.Tests.{eq-eqb, ne_eqb}
+-- Where one is noted it is kept.
+use mathlib.Core.Path.{◌≡◌, refl, sym, ◌∙◌}
+use mathlib.Core.Bool.{true, true≢false}
+use Rattle.std.specs.Prelude.{Option, Some, None}
+use Rattle.std.specs.Option.{is_some}
+use Rattle.replay_lines.specs.declared.run.Refused.{Refused}
+use Rattle.replay_lines.specs.declared.run.Line.{Line}
 use Rattle.replay_lines.specs.Replay.{noted}
 use Rattle.replay_lines.proofs.run.noted.Goals as goal
 
-pub returns-then-refused-ne0 : goal.returns-then-refused-ne0
-unfolding noted
-returns-then-refused-ne0 c = rw (ne_eqb _ _ c.if-refused-ne0.true)
+kept : (refused : Option Refused) (line : Line) → is_some refused ≡ true → refused ≡ noted refused line
+kept (Some refused) line e = refl
+kept None line e = absurd (true≢false (sym e))
 
-pub returns-then-ticked-eq0 : goal.returns-then-ticked-eq0
-unfolding noted
-returns-then-ticked-eq0 c = rw (eq-eqb _ _ c.if-refused-ne0.false, eq-eqb _ _ c.if-ticked-eq0.true)
-
-pub returns : goal.returns
-unfolding noted
-returns c = rw (eq-eqb _ _ c.if-refused-ne0.false, ne_eqb _ _ c.if-ticked-eq0.false)
+pub returns-then-is_some : goal.returns-then-is_some
+returns-then-is_some c = kept c.args.refused c.args.line (sym c.is_some.ensures ∙ c.if-is_some.true)

@@ -5,4 +5,4 @@ use Rattle.replay_lines.proofs.run.start.Goals as goal
 
 pub returns : goal.returns
 unfolding start_of
-returns c = (record { is = rw (c.no_refused.ensures, c.line_start.ensures, c.power_up-powered.ensures.is); lines = by_lines _ })
+returns c = (record { is = rw (c.line_start.ensures, c.power_up.ensures.is); lines = by_lines _ })

@@ -8,8 +8,6 @@ use native.Mathlib.Omega.{arith}
 use borrow.Author.Rules.{rules}
 use borrow.Author.Tests.{not-true, not-false}
 use Rattle.tick_line.specs.Scan.{line_start}
-use mir.Val.{Fits}
-use mir.Syntax.{w64}
 use Rattle.text.specs.Put.{farthest}
 use Rattle.replay_lines.specs.Replay.{with_scan}
 use Rattle.replay_lines.proofs.ReplayLaws.{Reached, reached_start, reached_in, reached_line, reached_same, reached_end, fresh_line, no_room}
@@ -26,19 +24,19 @@ module _ (c : After-after_line-run) where
   short_line : length c.args.out.now < farthest
   short_line = search rules
 
-  same_room : length c.put_line-end.new.out ≡ length c.args.out.now
-  same_room = rw c.put_line-end.auto.out c.loop-at.invariant.2
+  same_room : length c.add_line-end.new.out ≡ length c.args.out.now
+  same_room = rw c.add_line-end.auto.out c.loop-at.invariant.2
 
-  behind_line : Reached c.args.site c.args.first c.args.bytes.now c.args.out.now (c.loop-at.at + 1) c.after_line-run.result c.put_line-end.result c.put_line-end.new.out
+  behind_line : Reached c.args.site c.args.first c.args.bytes.now c.args.out.now (c.loop-at.at + 1) c.after_line-run.result c.add_line-end.result c.add_line-end.new.out
   unfolding with_scan
   behind_line =
       let a = c.args in
       reached_same a.site (rw (c.line_of-line.ensures, c.with_scan-whole.ensures) at c.after_line-run.ensures)
-      (reached_line a.site c.loop-at.invariant.4 below_line c.loop-at.invariant.1 c.if-b-ne10.false short_line (rw (c.line_of-line.ensures, c.with_scan-whole.ensures) at c.put_line-end.ensures.is))
+      (reached_line a.site c.loop-at.invariant.4 below_line c.loop-at.invariant.1 c.if-b-ne10.false short_line (rw (c.line_of-line.ensures, c.with_scan-whole.ensures) at c.add_line-end.ensures.is))
 
-  answer_fits : c.put_line-end.result ≤ length c.args.out.now
+  answer_fits : c.add_line-end.result ≤ length c.args.out.now
   answer_fits =
-      rw c.loop-at.invariant.2 at (fits_in _ c.put_line-end.ensures.is c.put_line-end.ensures.short (sym c.has_room.ensures ∙ not-false _ c.if-not-has_room.false-raw))
+      rw c.loop-at.invariant.2 at (fits_in _ c.add_line-end.ensures.is c.add_line-end.ensures.short (sym c.has_room.ensures ∙ not-false _ c.if-not-has_room.false-raw))
 
   line_begins : with_scan c.after_line-run.result line_start false ≡ c.after_line-run.result
   line_begins = rw c.after_line-run.ensures (fresh_line _ _)

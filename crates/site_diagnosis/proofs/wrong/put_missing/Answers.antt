@@ -1,6 +1,6 @@
 -- The code's test is the definition's: a file has half as many numbers as bytes.
 use Rattle.site_diagnosis.specs.Wrong.{missing_text}
-use Rattle.text.proofs.PutLaws.{put_then}
+use Rattle.text.proofs.PutsLaws.{puts_then}
 use Rattle.numbers.specs.Words.{words}
 use Rattle.numbers.proofs.WordLaws.{length_words}
 use borrow.Author.Tests.{le-ltb, lt-ltb}
@@ -8,16 +8,15 @@ use lib.ListN.{length}
 use Prim.Native.Nat.{◌+◌, ◌-◌, ◌/◌}
 use mathlib.Core.Path.{◌≡◌}
 use native.Mathlib.Omega.{arith}
-use borrow.Author.Rules.{rules}
 use Rattle.site_diagnosis.proofs.wrong.put_missing.Goals as goal
 
 pub returns-then-total-q : goal.returns-then-total-q
 unfolding missing_text
 returns-then-total-q c =
     rw (le-ltb c.args.q (length (words c.args.file.now)) (omega (arith, length_words c.args.file.now)))
-    (put_then (search rules) c.put_bytes-p.ensures
-    (λ l. put_then l c.put_rows-end.ensures
-    (λ _. c.put_bytes.ensures)))
+    (puts_then c.put.ensures
+    (puts_then c.put_rows.ensures
+    c.put-then-total-q.ensures))
 
 pub returns : goal.returns
 unfolding missing_text
@@ -26,5 +25,5 @@ returns c =
     let n = length_words c.args.file.now in
     let e : length c.args.file.now / 2 - c.args.q - 1 ≡ length ws - (c.args.q + 1) = omega arith in
     rw (lt-ltb c.args.q (length ws) (omega arith))
-    (put_then (search rules) (rw e at c.put_number-end.ensures)
-    (λ _. c.put_bytes-2.ensures))
+    (puts_then (rw e at c.put_number.ensures)
+    c.put-2.ensures)

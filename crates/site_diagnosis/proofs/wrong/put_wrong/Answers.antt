@@ -1,28 +1,25 @@
--- The code's tests are the definition's; past them the section is whole.
+-- The code's cases are the definition's; past them the section is whole.
+use Rattle.site_diagnosis.proofs.DiagnosisLaws.{other_wrong}
 use Rattle.site_diagnosis.specs.Wrong.{wrong_text}
 use Rattle.site.proofs.Sizes.{no_longer}
 use Rattle.site.proofs.SectionLaws.{out_of_range}
 use Rattle.numbers.specs.Words.{words}
 use lib.ListN.{length}
-use borrow.Author.Tests.{eq-eqb, ne_eqb}
-use mathlib.Core.Path.{◌∙◌}
 use Rattle.site_diagnosis.proofs.wrong.put_wrong.Goals as goal
 
-pub returns-then-refusal-eq-SHORT_FILE : goal.returns-then-refusal-eq-SHORT_FILE
+pub returns-in-ShortFile : goal.returns-in-ShortFile
 unfolding wrong_text
-returns-then-refusal-eq-SHORT_FILE c = rw (eq-eqb _ _ c.if-refusal-eq-SHORT_FILE.true) c.put_missing.ensures
+returns-in-ShortFile c = rw c.in-ShortFile.is c.put_missing.ensures
 
-pub returns-then-refusal-eq-WRONG_COUNT : goal.returns-then-refusal-eq-WRONG_COUNT
+pub returns-in-WrongCount : goal.returns-in-WrongCount
 unfolding wrong_text
-returns-then-refusal-eq-WRONG_COUNT c =
-    rw (ne_eqb _ _ c.if-refusal-eq-SHORT_FILE.false, eq-eqb _ _ c.if-refusal-eq-WRONG_COUNT.true, ← c.word.ensures) c.put_count.ensures
+returns-in-WrongCount c = rw (c.in-WrongCount.is, ← c.word.ensures) c.put_count.ensures
 
 pub put_bad_number_in-requires : goal.put_bad_number_in-requires
 put_bad_number_in-requires c =
-    let o = out_of_range c.args.section (length c.args.file.now) (words c.args.file.now) c.args.q (λ z. c.requires.1 (c.requires.0 ∙ z)) (λ z. c.if-refusal-eq-SHORT_FILE.false (c.requires.0 ∙ z)) (λ z. c.if-refusal-eq-WRONG_COUNT.false (c.requires.0 ∙ z)) in
+    let o = out_of_range c.args.section (length c.args.file.now) (words c.args.file.now) c.args.q c.requires c.in_default.not-ShortFile c.in_default.not-WrongCount in
     (no_longer c.args.section, o.allowed, o.whole)
 
-pub returns : goal.returns
-unfolding wrong_text
-returns c =
-    rw (ne_eqb _ _ c.if-refusal-eq-SHORT_FILE.false, ne_eqb _ _ c.if-refusal-eq-WRONG_COUNT.false) c.put_bad_number_in.ensures
+pub returns-in_default : goal.returns-in_default
+returns-in_default c =
+    rw (other_wrong _ _ _ _ c.in_default.not-ShortFile c.in_default.not-WrongCount) c.put_bad_number_in.ensures

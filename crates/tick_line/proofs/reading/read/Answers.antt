@@ -9,4 +9,4 @@ use Rattle.tick_line.proofs.reading.read.Goals as goal
 pub returns : goal.returns
 returns c =
     let a = c.args in
-    let is : c.tick_read.result ≡ tick_read (closed a.s) a.n a.m = simp (c.tick_read.ensures, c.closed.ensures) in (record { is = is; words = λ line l e. is ∙ ap (λ (s : Scan). tick_read (closed s) a.n a.m) e ∙ line_by_words a.n a.m line l })
+    let is : c.tick_read.result ≡ tick_read (closed a.s) a.shape.lanes a.shape.mainline = simp (c.tick_read.ensures, c.closed.ensures) in (record { is = is; words = λ line l e. is ∙ ap (λ (s : Scan). tick_read (closed s) a.shape.lanes a.shape.mainline) e ∙ line_by_words a.shape.lanes a.shape.mainline line l })

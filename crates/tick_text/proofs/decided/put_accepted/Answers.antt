@@ -1,13 +1,12 @@
 -- The four parts of the text.
-use Rattle.text.proofs.PutLaws.{put_then}
+use Rattle.text.proofs.PutsLaws.{puts_then}
 use Rattle.tick_text.specs.Decided.{accepted_text}
-use borrow.Author.Rules.{rules}
 use Rattle.tick_text.proofs.decided.put_accepted.Goals as goal
 
 pub returns : goal.returns
 unfolding accepted_text
 returns c =
-    put_then (search rules) c.put_decision-p.ensures
-    (λ l. put_then l c.put_blank_and_decimal-q.ensures
-    (λ l. put_then l c.put_blank_and_decimal-r.ensures
-    (λ _. c.put_bypass.ensures)))
+    puts_then c.put_decision.ensures
+    (puts_then c.put_blank_and_decimal.ensures
+    (puts_then c.put_blank_and_decimal-2.ensures
+    c.put_bypass.ensures))

@@ -1,8 +1,8 @@
 -- The code's cases are the definition's.
 use Rattle.wanted.proofs.wish.measured_choice.Goals as goal
 
-pub returns-in-NoGoodLane : goal.returns-in-NoGoodLane
-returns-in-NoGoodLane c = rw c.in-NoGoodLane.is
+pub returns-in-None : goal.returns-in-None
+returns-in-None c = rw c.in-None.is
 
-pub returns-in-Over : goal.returns-in-Over
-returns-in-Over c = rw (c.in-Over.is, ← c.deciding.ensures.is) c.level_choice.ensures
+pub returns-in-Some : goal.returns-in-Some
+returns-in-Some c = rw (c.in-Some.is, ← c.deciding.ensures.is) c.level_choice.ensures

@@ -3,14 +3,15 @@ use Prim.Native.Nat.{ℕ}
 use mathlib.Core.Path.{sym, ◌∙◌, ap}
 use mathlib.Core.Bool.{true, false}
 use mathlib.Core.List.{List}
+use borrow.Author.Rules.{rules}
 use lib.ListN.{drop}
 use Rattle.word_value.specs.Digits.{digits_read}
 use Rattle.word_value.specs.Signed.{kept_word, of_digits}
 use Rattle.word_value.proofs.WordLaws.{rest, value_kept, from_digits, of_none, of_many, behind_minus, behind_plus, behind_none}
 use Rattle.word_value.proofs.signed.read.Goals as goal
 
-pub returns-then-word-eq0 : goal.returns-then-word-eq0
-returns-then-word-eq0 c = rw (of_none c.args.word.now c.if-word-eq0.true)
+pub returns-then-is_empty : goal.returns-then-is_empty
+returns-then-is_empty c = rw (of_none c.args.word.now (search rules))
 
 pub returns-then-word-gt-LONGEST_WORD : goal.returns-then-word-gt-LONGEST_WORD
 returns-then-word-gt-LONGEST_WORD c = rw (of_many c.args.word.now c.if-word-gt-LONGEST_WORD.true)
@@ -48,4 +49,4 @@ returns c =
     c.of_digits-2.ensures
     ∙ ap (of_digits false) c.digits_read-2.ensures
     ∙ from_digits false word
-    ∙ sym (ap kept_word (behind_none word c.if-word-eq0.false c.if-word-gt-LONGEST_WORD.false c.if-first-eq45.false c.if-first-eq43.false))
+    ∙ sym (ap kept_word (behind_none word (search rules) c.if-word-gt-LONGEST_WORD.false c.if-first-eq45.false c.if-first-eq43.false))

@@ -1,5 +1,5 @@
 -- The words as they are kept give the lines of the words.
-use Rattle.text.proofs.PutLaws.{put_as}
+use Rattle.text.proofs.PutsLaws.{puts_as}
 use Rattle.word_value.specs.Signed.{word_read}
 use Rattle.yellow_sheet.proofs.KeptLaws.{complaint_kept}
 use Rattle.yellow_sheet.proofs.complaint.put_complaint.Goals as goal
@@ -8,4 +8,4 @@ pub returns : goal.returns
 returns c =
     let speed = c.args.speed.now in
     let grade = c.args.grade.now in
-    put_as (rw (c.read.ensures, c.read-2.ensures) (complaint_kept speed (word_read speed) grade (word_read grade))) c.put_of_words.ensures
+    puts_as (rw (c.read.ensures, c.read-2.ensures) (complaint_kept speed (word_read speed) grade (word_read grade))) c.put_of_words.ensures

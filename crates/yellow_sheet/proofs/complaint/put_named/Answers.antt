@@ -1,17 +1,9 @@
 -- One text behind the other.
-use Prim.Native.Nat.{◌<◌}
-use borrow.Author.Rules.{rules}
-use lib.ListN.{length}
-use Rattle.text.specs.Put.{farthest}
-use Rattle.text.proofs.PutLaws.{put_then}
+use Rattle.text.proofs.PutsLaws.{puts_then}
 use Rattle.yellow_sheet.specs.Complaint.{named_line}
 use Rattle.yellow_sheet.proofs.complaint.put_named.Goals as goal
-use Rattle.yellow_sheet.proofs.complaint.put_named.Goals.{After-put_bytes-p}
-
-bounded : (c : After-put_bytes-p) → length c.args.out.now < farthest
-bounded c = search rules
 
 pub returns : goal.returns
 unfolding named_line
 returns c =
-    put_then (bounded (goal.at.returns c).After-put_bytes-p) c.put_bytes-p.ensures (λ l. put_then l c.put_bytes-q.ensures (λ _. c.put_bytes.ensures))
+    puts_then c.put.ensures (puts_then c.put-2.ensures c.put-3.ensures)

@@ -5,4 +5,4 @@ use Rattle.yellow_sheet.proofs.complaint.put_usage.Goals as goal
 pub returns : goal.returns
 unfolding usage_line
 returns c =
-    c.put_bytes.ensures
+    c.put.ensures

@@ -1,11 +1,10 @@
 -- A blank, and the grade.
 use mathlib.Core.Path.{◌∙◌, ap}
-use borrow.Author.Rules.{rules}
 use lib.IntN.{ℤ}
 use mir.Syntax.{w64}
 use mir.Val.{to_z, of_z}
 use Rattle.text.specs.Decimal.{signed}
-use Rattle.text.proofs.PutLaws.{put_then, put_as}
+use Rattle.text.proofs.PutsLaws.{puts_then, puts_as}
 use Rattle.slope.proofs.SizeLaws.{read_back}
 use Rattle.yellow_sheet.specs.Sheet.{grade_of, grade_text}
 use Rattle.yellow_sheet.proofs.SheetLaws.{grade_size}
@@ -16,4 +15,4 @@ unfolding grade_text
 returns c =
     let k = c.args.column in
     let e = ap (λ (s : ℤ). to_z w64 (of_z w64 s)) c.grade_of.ensures ∙ read_back (grade_of k) (grade_size k c.requires) in
-    put_then (search rules) c.put_byte-p.ensures (λ _. put_as (ap signed e) c.put_signed.ensures)
+    puts_then c.put_byte.ensures (puts_as (ap signed e) c.put_signed.ensures)

@@ -1,17 +1,9 @@
 -- The heading, and the lines.
-use Prim.Native.Nat.{◌<◌}
-use borrow.Author.Rules.{rules}
-use lib.ListN.{length}
-use Rattle.text.specs.Put.{farthest}
-use Rattle.text.proofs.PutLaws.{put_then}
+use Rattle.text.proofs.PutsLaws.{puts_then}
 use Rattle.yellow_sheet.specs.Sheet.{sheet_text}
 use Rattle.yellow_sheet.proofs.sheet.put_sheet.Goals as goal
-use Rattle.yellow_sheet.proofs.sheet.put_sheet.Goals.{After-put_bytes-p}
-
-bounded : (c : After-put_bytes-p) → length c.args.out.now < farthest
-bounded c = search rules
 
 pub returns : goal.returns
 unfolding sheet_text
 returns c =
-    put_then (bounded (goal.at.returns c).After-put_bytes-p) c.put_bytes-p.ensures (λ l. put_then l c.put_grades-q.ensures (λ l. put_then l c.put_byte-r.ensures (λ _. c.put_speeds.ensures)))
+    puts_then c.put.ensures (puts_then c.put_grades.ensures (puts_then c.put_byte.ensures c.put_speeds.ensures))

@@ -1,17 +1,9 @@
 -- One text behind the other.
-use Prim.Native.Nat.{◌<◌}
-use borrow.Author.Rules.{rules}
-use lib.ListN.{length}
-use Rattle.text.specs.Put.{farthest}
-use Rattle.text.proofs.PutLaws.{put_then}
+use Rattle.text.proofs.PutsLaws.{puts_then}
 use Rattle.yellow_sheet.specs.Sheet.{speed_line}
 use Rattle.yellow_sheet.proofs.sheet.put_speed.Goals as goal
-use Rattle.yellow_sheet.proofs.sheet.put_speed.Goals.{After-put_decimal-p}
-
-bounded : (c : After-put_decimal-p) → length c.args.out.now < farthest
-bounded c = search rules
 
 pub returns : goal.returns
 unfolding speed_line
 returns c =
-    put_then (bounded (goal.at.returns c).After-put_decimal-p) c.put_decimal-p.ensures (λ l. put_then l c.put_yellows-q.ensures (λ _. c.put_byte.ensures))
+    puts_then c.put_decimal.ensures (puts_then c.put_yellows.ensures c.put_byte.ensures)

@@ -1,9 +1,0 @@
--- The loop ends after the largest count.
-use Rattle.std.proofs.Common.{◌-◌}
-use Rattle.calendar_check.proofs.check_lists.Given as goal
-
-abbrev pub invariant-loop-count : goal.invariant-loop-count
-invariant-loop-count l = Unit {0}
-
-abbrev pub decreases-loop-count : goal.decreases-loop-count
-decreases-loop-count l = 17 - l.count

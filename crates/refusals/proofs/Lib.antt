@@ -1,0 +1,2 @@
+pub mod NoneLaws
+pub mod NumberLaws
