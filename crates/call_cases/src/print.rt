@@ -208,25 +208,18 @@ pub fn ran(ran: Ran, buffer: &[u8]) {
     print_buffer(b"records", ran.refusal, ran.accepted, buffer);
 }
 
-// The refusal, what was decided, and the cycle at so many vehicles per green.
-fn print_decided(refusal: Option<Refusal>, d: Decision, vehicles: u16) {
+// The refusal, the decision given, and the cycle at so many vehicles per green.
+pub fn decided(decided: Result<Decision, Refusal>, vehicles: u16) {
+    let d = decide::decision_given(decided);
     let cycle = release::cycle_ticks(vehicles, wanted::rate_of(d.wish));
     let mut buffer = io::buffer();
     let mut out = Text::new(&mut buffer);
     out.put(b"decide");
-    put_refusal(&mut out, refusal);
+    put_refusal(&mut out, decided.err());
     tick_text::put_decision(&mut out, d);
     put_long(&mut out, cycle);
     out.put_byte(b'\n');
     test_output::print(&out);
-}
-
-// A refused call has decided nothing: no day, no entry, dark.
-pub fn decided(decided: Result<Decision, Refusal>, vehicles: u16) {
-    match decided {
-        Ok(decision) => print_decided(None, decision, vehicles),
-        Err(refusal) => print_decided(Some(refusal), wanted::no_decision(), vehicles),
-    }
 }
 
 // The refusal, how many bytes were written, and whether those behind them are as they were.

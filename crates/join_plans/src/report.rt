@@ -6,6 +6,7 @@ ghost use Rattle.join_plans.specs.JoinedSite.{plan_of};
 ghost use Rattle.join_plans.specs.Report.{filed_text, dropped_line, line_for, report_of, of_text, shares_text, too_many_text, remain_text, ShortNames};
 
 use joining::PlanList;
+use numbers::Rows;
 use plan::Entry;
 use refusals::Refusal;
 use site::Site;
@@ -47,7 +48,11 @@ fn put_line(out: &mut Text, name: &[u8], first: PlanList, other: &[u8], second: 
     ensures { Puts out.old (line_for name.now first other.now second i) out.new }
 {
     let e = plan::entry_at(&first.rows, i);
-    let place = joining::covering(&second, e);
+    let others = Rows {
+        numbers: &second.rows,
+        count: second.count,
+    };
+    let place = joining::covering(others, e);
     if place == 0 {
         return;
     }

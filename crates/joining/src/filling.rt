@@ -6,6 +6,7 @@ ghost use Rattle.joining.specs.Joining.{entries_of, kept, list_of};
 ghost use Rattle.joining.specs.Filling.{with_entry, with_all};
 
 use crate::PlanList;
+use numbers::Rows;
 use plan::Entry;
 
 // A list without entries.
@@ -41,10 +42,14 @@ pub fn keep(first: PlanList, second: PlanList) -> PlanList
     requires { first.count ≤ greatest_of Entries }
     ensures { result ≡ list_of (kept (entries_of first) (entries_of second)) }
 {
+    let others = Rows {
+        numbers: &second.rows,
+        count: second.count,
+    };
     let mut list = empty();
     for i in 0..first.count {
         let e = plan::entry_at(&first.rows, i);
-        if crate::covering(&second, e) == 0 {
+        if crate::covering(others, e) == 0 {
             list = with_entry(list, e);
         }
     }

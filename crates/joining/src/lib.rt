@@ -10,6 +10,7 @@ ghost use Rattle.joining.specs.EndToEnd.{IsAccepted, SameInForce};
 ghost use Rattle.joining.specs.Decided.{SameDecisions};
 ghost use Rattle.joining.specs.Ticked.{SameTicks};
 
+use numbers::Rows;
 use plan::Entry;
 use refusals::Refusal;
 
@@ -37,14 +38,14 @@ pub fn covers(other: Entry, e: Entry) -> bool
     days <= shared
 }
 
-// The place from 1 of the last of a list's entries that covers this one; 0 for none.
+// The place from 1 of the last of a plan's entries that covers this one; 0 for none.
 // (places are told as the plan's own calls tell them, and as the lines print them)
-pub fn covering(list: &PlanList, e: Entry) -> u16
-    ensures is { result ≡ covering_of list.now.rows e list.now.count }
-    ensures words { LastCovering list.now.rows list.now.count e result }
+pub fn covering(plan: Rows, e: Entry) -> u16
+    ensures is { result ≡ covering_of plan.entry.numbers.now e plan.entry.count }
+    ensures words { LastCovering plan.entry.numbers.now plan.entry.count e result }
 {
-    for i in (0..list.count).rev() {
-        if covers(plan::entry_at(&list.rows, i), e) {
+    for i in (0..plan.count).rev() {
+        if covers(plan::entry_at(plan.numbers, i), e) {
             return i + 1;
         }
     }
@@ -56,10 +57,14 @@ pub fn remaining(first: PlanList, second: PlanList) -> u16
     ensures is { result ≡ length (kept (entries_of first) (entries_of second)) }
     ensures words { (from : ℕ → ℕ) × Remain first second result from }
 {
+    let others = Rows {
+        numbers: &second.rows,
+        count: second.count,
+    };
     let mut many: u16 = 0;
     for i in 0..first.count {
         let e = plan::entry_at(&first.rows, i);
-        if covering(&second, e) == 0 {
+        if covering(others, e) == 0 {
             many += 1;
         }
     }

@@ -7,7 +7,7 @@ use lib.Dec.{T, leb→le}
 use lib.IntN.{ℤ, pos, negsuc, nat_abs, pos-ne-negsuc}
 use lib.Signed.{le_z, le_z_yes, ◌≤ℤ◌, ≤ℤ_refl}
 use Rattle.loops.proofs.Cases.{by_test, both_true}
-use Rattle.slope.specs.Slope.{is_from, least_speed, most_speed, least_grade, most_grade, speed_in, grade_in, ticks_of, yellow_at}
+use Rattle.slope.specs.Slope.{is_from, least_speed, most_speed, least_grade, most_grade, speed_in, grade_in, ticks_of, yellow_at, ticks_given}
 use Rattle.slope.specs.Kinematic.{LeastEnough}
 use Rattle.slope.specs.Claims.{InRange, Refuses, Fits, NeverGrows, NeverFalls}
 use Rattle.slope.proofs.SlopeLaws.{Speed, speed, grade_size, ticks_fit, ordered}
@@ -78,6 +78,9 @@ ticks_ordered v v' s s' e e' h l =
     let a = given v s e in
     let b = given v' s' e' in
     ordered v v' s s' a.tipped b.tipped (slower v v' a.going b.going h) l
+
+answers_ordered : (v v' s s' : ℤ) → InRange v s → InRange v' s' → v ≤ℤ v' → s' ≤ℤ s → ticks_given (yellow_at v s) ≤ ticks_given (yellow_at v' s')
+answers_ordered v v' s s' e e' h l = rw ((given v s e).ticks_are, (given v' s' e').ticks_are) (ticks_ordered v v' s s' e e' h l)
 
 -- What holds of the ticks holds of the answer.
 answered : (v s : ℤ) (P : ℕ → Type 0) → InRange v s → P (ticks_of v s) → IsOkAnd (yellow_at v s) P

@@ -4,4 +4,4 @@ use mathlib.Core.Path.{◌≡◌}
 use Rattle.joining.proofs.covering.Given as goal
 
 abbrev pub invariant-loop-i : goal.invariant-loop-i
-invariant-loop-i l = covering_of l.list.rows l.e l.i ≡ covering_of l.list.rows l.e l.list.count
+invariant-loop-i l = covering_of l.plan.numbers.now l.e l.i ≡ covering_of l.plan.numbers.now l.e l.plan.count

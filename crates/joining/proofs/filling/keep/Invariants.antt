@@ -9,4 +9,4 @@ use Rattle.joining.proofs.filling.keep.Given as goal
 abbrev pub invariant-loop-i : goal.invariant-loop-i
 invariant-loop-i l =
     (l.list.count ≤ l.i)
-    × (with_all l.list (kept (entries_from l.first.rows l.i (l.first.count - l.i)) (entries_from l.second.rows 0 l.second.count)) ≡ with_all (list_of []) (kept (entries_from l.first.rows 0 l.first.count) (entries_from l.second.rows 0 l.second.count)))
+    × (with_all l.list (kept (entries_from l.first.rows l.i (l.first.count - l.i)) (entries_from l.fn.second.rows 0 l.fn.second.count)) ≡ with_all (list_of []) (kept (entries_from l.first.rows 0 l.first.count) (entries_from l.fn.second.rows 0 l.fn.second.count)))
