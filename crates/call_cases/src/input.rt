@@ -16,15 +16,11 @@ use state::State;
 use tick::Input;
 use timings::Shape;
 
-fn long(high: u16, low: u16) -> u32 {
-    (high as u32) * 65536 + (low as u32)
-}
-
 // Numbers i and i + 1 as one.
 fn long_at(op: &[u8], i: usize) -> u32
     requires { i ≤ 240 }
 {
-    long(numbers::word(op, i), numbers::word(op, i + 1))
+    tick_row::long_of(numbers::word(op, i), numbers::word(op, i + 1))
 }
 
 // The numbers from number `at` on; of a shorter operation those behind it too.

@@ -27,7 +27,7 @@ fn put_refusal(out: &mut Text, refusal: Option<Refusal>) {
 }
 
 fn put_flag(out: &mut Text, b: bool) {
-    put_word(out, if b { 1 } else { 0 });
+    put_word(out, u16::from(b));
 }
 
 // Each of these, one behind the other.
@@ -75,19 +75,8 @@ fn put_counts(out: &mut Text, c: Counts) {
 
 // A double as the 16 hexadecimal digits of its bits.
 fn put_double(out: &mut Text, x: f64) {
-    let bits = speed::bits_of(x);
-    let bytes = [
-        (bits / 72057594037927936) as u8,
-        (bits / 281474976710656 % 256) as u8,
-        (bits / 1099511627776 % 256) as u8,
-        (bits / 4294967296 % 256) as u8,
-        (bits / 16777216 % 256) as u8,
-        (bits / 65536 % 256) as u8,
-        (bits / 256 % 256) as u8,
-        (bits % 256) as u8,
-    ];
     out.put_byte(b' ');
-    tick_text::put_hex(out, &bytes);
+    tick_text::put_hex(out, &speed::bits_of(x).to_be_bytes());
 }
 
 fn put_speeds(out: &mut Text, s: Speeds) {

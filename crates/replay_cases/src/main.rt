@@ -3,8 +3,6 @@
 // follows on standard output.
 #![tactic(auto)]
 
-ghost use Rattle.std.specs.Prelude.{◌≤◌, length};
-
 use std::rt::Files;
 use streams::{STDIN_FILENO, STDOUT_FILENO};
 
@@ -20,25 +18,10 @@ fn show(rt: &(impl Files + Print), site: &[u8], ticks: &[u8]) {
     }
 }
 
-// The place of the first such byte from a place on, or the end.
-fn place_of(text: &[u8], from: usize, byte: u8) -> usize
-    requires { from ≤ length text.now }
-    ensures { (from ≤ result) × (result ≤ length text.now) }
-{
-    for at in from..text.len() {
-        if text[at] == byte {
-            return at;
-        }
-    }
-    text.len()
-}
-
 // The run of one line.
 fn show_line(rt: &(impl Files + Print), line: &[u8]) {
-    let blank = place_of(line, 0, b' ');
-    if blank < line.len() {
-        let next = blank + 1;
-        show(rt, &line[..blank], &line[next..]);
+    if let Some(blank) = line.iter().position(|byte| *byte == b' ') {
+        show(rt, &line[..blank], &line[blank + 1..]);
     }
 }
 

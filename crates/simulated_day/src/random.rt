@@ -16,10 +16,6 @@ fn next(x: u32) -> u32 {
     ((x as u64) * 16807 % 2147483647) as u32
 }
 
-fn chance(hit: bool) -> u16 {
-    if hit { 1 } else { 0 }
-}
-
 // Four numbers to 7.
 fn four(x: u32) -> [u32; 4] {
     [x % 8, x / 8 % 8, x / 64 % 8, x / 512 % 8]
@@ -27,12 +23,12 @@ fn four(x: u32) -> [u32; 4] {
 
 // Mostly 1.
 fn demands(x: u32) -> [u16; 4] {
-    four(x).map(|v| chance(v != 0))
+    four(x).map(|v| u16::from(v != 0))
 }
 
 // Mostly 0.
 fn passages(x: u32) -> [u16; 4] {
-    four(x / 4096).map(|v| chance(v == 0))
+    four(x / 4096).map(|v| u16::from(v == 0))
 }
 
 // Six numbers to 31, each so many times.
@@ -51,11 +47,11 @@ fn six(x: u32, times: u32) -> [u16; 6]
 
 // One of 2048 ticks finds a lane failing.
 fn working(x: u32) -> [u16; 6] {
-    [0, 1, 2, 3, 4, 5].map(|lane| chance(x / 1048576 != lane))
+    [0, 1, 2, 3, 4, 5].map(|lane| u16::from(x / 1048576 != lane))
 }
 
 fn vehicles(x: u32) -> [u16; 6] {
-    six(x, 1).map(|v| chance(v < 2))
+    six(x, 1).map(|v| u16::from(v < 2))
 }
 
 // To 93 milliseconds.

@@ -10,20 +10,12 @@ use text::Text;
 // 2^63: a k is below it.
 const HALF: u64 = 9223372036854775808;
 
-// Numbers i and i + 1 as one.
-fn long_at(case: &[u8], i: usize) -> u64
-    requires { i ≤ 16 }
-    ensures { result ≤ 4294967295 }
-{
-    (numbers::word(case, i) as u64) * 65536 + (numbers::word(case, i + 1) as u64)
-}
-
 // One that is not below 2^63 counts from there.
 fn k_at(case: &[u8], i: usize) -> u64
     requires { i ≤ 12 }
     ensures { result ≤ 9223372036854775807 }
 {
-    (long_at(case, i) * 4294967296 + long_at(case, i + 2)) % HALF
+    test_input::long_at(case, i) % HALF
 }
 
 fn number_at(case: &[u8], i: usize) -> i64
