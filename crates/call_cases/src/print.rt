@@ -109,7 +109,7 @@ pub fn state(s: State) {
     let mut buffer = io::buffer();
     let mut out = Text::new(&mut buffer);
     put_state(&mut out, s);
-    test_output::print(&out);
+    test_output::print(out.whole());
 }
 
 // Ticks.
@@ -157,7 +157,7 @@ pub fn ticked(number: u16, line: Line) {
     let mut out = Text::new(&mut buffer);
     out.put_decimal(number as u64);
     put_line(&mut out, line);
-    test_output::print(&out);
+    test_output::print(out.whole());
 }
 
 // The other calls.
@@ -168,7 +168,7 @@ pub fn powered(refusal: Option<Refusal>) {
     out.put(b"power");
     put_refusal(&mut out, refusal);
     out.put_byte(b'\n');
-    test_output::print(&out);
+    test_output::print(out.whole());
 }
 
 // A call's word, its refusal, a count, and all of the buffer that it was lent.
@@ -181,7 +181,7 @@ fn print_buffer(word: &[u8], refusal: Option<Refusal>, count: usize, lent: &[u8]
     out.put_byte(b' ');
     tick_text::put_hex(&mut out, lent);
     out.put_byte(b'\n');
-    test_output::print(&out);
+    test_output::print(out.whole());
 }
 
 // The count is of the bytes that were written.
@@ -208,7 +208,7 @@ pub fn decided(decided: Result<Decision, Refusal>, vehicles: u16) {
     tick_text::put_decision(&mut out, d);
     put_long(&mut out, cycle);
     out.put_byte(b'\n');
-    test_output::print(&out);
+    test_output::print(out.whole());
 }
 
 // The refusal, how many bytes were written, and whether those behind them are as they were.
@@ -218,7 +218,7 @@ pub fn written(w: Written, kept: bool) {
     out.put(b"write");
     test_output::put_written(&mut out, w, kept);
     out.put_byte(b'\n');
-    test_output::print(&out);
+    test_output::print(out.whole());
 }
 
 // 0 absent, 1 measured, 2 carried over.
@@ -252,5 +252,5 @@ pub fn readings(r: Readings) {
     put_refusal(&mut out, r.refusal);
     put_six_readings(&mut out, r);
     out.put_byte(b'\n');
-    test_output::print(&out);
+    test_output::print(out.whole());
 }

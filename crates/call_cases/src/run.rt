@@ -230,6 +230,6 @@ pub fn answer_case(file: &[u8], ops: &[u8]) {
             },
             ops,
         ),
-        Err(misread) => test_output::print_refusal(misread.refusal, misread.place),
+        Err(misread) => test_output::print_refusal(misread.refusal.number(), misread.place),
     }
 }

@@ -63,7 +63,7 @@ module _ (i : ℕ) (d : Desk) (there : enrolled_at d i ≡ true) where
   own_most : enrolled_below d i + 1 ≤ how_many d
   own_most = omega (arith, own, below_grows d (suc i) 32 (omega (arith, small)))
 
-  -- Some i is not among those before it, nor is another that is in turn.
+  -- Cabinet i is not among those before it, nor is another that is in turn.
   ahead_most : ahead i d + 1 ≤ how_many d
   unfolding ahead
   ahead_most =

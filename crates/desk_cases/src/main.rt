@@ -94,7 +94,7 @@ fn print_start(name: &[u8], desk: Desk) -> Desk {
     let mut line = Text::new(&mut buffer);
     line.put(name);
     put_desk(&mut line, desk);
-    test_output::print(&line);
+    test_output::print(line.whole());
     desk
 }
 
@@ -103,7 +103,7 @@ fn print_changed(name: &[u8], cabinet: u64, changed: Changed) -> Desk {
     let mut line = Text::new(&mut buffer);
     put_call(&mut line, name, cabinet, changed.refusal);
     put_desk(&mut line, changed.desk);
-    test_output::print(&line);
+    test_output::print(line.whole());
     changed.desk
 }
 
@@ -113,7 +113,7 @@ fn print_ticked(answer: u64, ticked: DeskTicked) -> Desk {
     put_call(&mut line, b"tick", answer, ticked.refusal);
     put_polled(&mut line, ticked.polled);
     put_desk(&mut line, ticked.desk);
-    test_output::print(&line);
+    test_output::print(line.whole());
     ticked.desk
 }
 

@@ -101,7 +101,7 @@ fn answer(case: &[u8]) {
     if let Ok(list) = answer {
         put_year(&mut text, case, list, first, second);
     }
-    test_output::print(&text);
+    test_output::print(text.whole());
 }
 
 fn main() {

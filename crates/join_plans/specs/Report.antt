@@ -4,6 +4,7 @@ use Rattle.text.specs.Ascii.{ascii}
 use Rattle.text.specs.Decimal.{decimal}
 use Rattle.text.specs.Joined.{joined}
 use Rattle.refusals.specs.declared.Refusal.{Refusal}
+use Rattle.refusals.specs.Numbers.{number_of}
 use Rattle.phrases.specs.Phrases.{refused_line}
 use Rattle.phrases.specs.Wrong.{opening_text, allowed_text}
 use Rattle.ranges.specs.declared.Section.TheVariants.{Entries}
@@ -47,8 +48,8 @@ shares_text first name second other = ascii " (" ++ (of_text first name ++ (asci
 -- The refusal, and in words: `too many entries: 17 would remain, allowed 0-16 (2 of site.bin, 15 of works.bin)`.
 unfoldable pub too_many_text : Refusal → ℕ → List ℕ → ℕ → List ℕ → List ℕ
 too_many_text refusal first name second other =
-    refused_line refusal
-    ++ (opening_text refusal ++ (decimal (first + second) ++ (ascii " would remain" ++ (allowed_text 0 (greatest_of Entries) ++ shares_text first name second other))))
+    refused_line (number_of refusal)
+    ++ (opening_text (number_of refusal) ++ (decimal (first + second) ++ (ascii " would remain" ++ (allowed_text 0 (greatest_of Entries) ++ shares_text first name second other))))
 
 abbrev pub remain_text : Refusal → List ℕ → PlanList → List ℕ → PlanList → List ℕ
 remain_text refusal name first other second = too_many_text refusal (length (kept (entries_of first) (entries_of second))) name second.count other

@@ -125,8 +125,8 @@ fn put_too_many(
 )
     ensures { Puts out.old (too_many_text refusal first name.now second other.now) out.new }
 {
-    phrases::put_refused(out, refusal);
-    phrases::put_opening(out, refusal);
+    phrases::put_refused(out, refusal.number());
+    phrases::put_opening(out, refusal.number());
     out.put_decimal(first as u64 + second as u64);
     out.put(b" would remain");
     phrases::put_allowed(out, 0, ranges::MOST_ENTRIES as u64);

@@ -34,7 +34,7 @@ line_most_lem day filed e r t =
     (λ f. simp length-append (omega arith), λ f. simp length-append (omega arith))
 
 -- What a refused file prints.
-refusal_most : (refusal : Refusal) (place : ℕ) → place < tens 19 → length (refusal_line refusal place) ≤ 36
+refusal_most : (refusal : Refusal) (place : ℕ) → place < tens 19 → length (refusal_line (number_of refusal) place) ≤ 36
 unfolding refusal_line
 refusal_most refusal place p =
     let r : number_of refusal < tens 2 = omega (arith, number_most refusal) in

@@ -2,6 +2,7 @@
 -- start as hh:mm, mode, rate, table, place in the file from 1, one blank between."
 use Rattle.std.specs.Prelude.{ℕ, zero, suc, ◌+◌, ◌*◌, cond, List, [], ◌++◌, eqb, Result, Ok, Err}
 use Rattle.text.specs.Ascii.{ascii}
+use Rattle.refusals.specs.Numbers.{number_of}
 use Rattle.phrases.specs.Phrases.{day_name, blank_and_decimal, refusal_line}
 use Rattle.entry_text.specs.EntryText.{timed_text}
 use Rattle.plan.specs.declared.Entry.{Entry}
@@ -42,7 +43,7 @@ timetable_of x = ascii "day start mode rate table filed\n" ++ days_from x.plan x
 -- What is printed of what reading gave: "A refused file prints only `refused N at P`."
 unfoldable pub printed_of : Result Site Misread → List ℕ
 printed_of (Ok x) = timetable_of x
-printed_of (Err m) = refusal_line m.refusal m.place
+printed_of (Err m) = refusal_line (number_of m.refusal) m.place
 
 -- What is printed of a site file's bytes.
 abbrev pub text_of : List ℕ → List ℕ

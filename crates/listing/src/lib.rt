@@ -90,7 +90,7 @@ fn put_printed(out: &mut Text, read: Result<Site, Misread>)
 {
     match read {
         Ok(site) => put_timetable(out, site),
-        Err(misread) => phrases::put_refusal(out, misread.refusal, misread.place),
+        Err(misread) => phrases::put_refusal(out, misread.refusal.number(), misread.place),
     }
 }
 

@@ -2,8 +2,6 @@
 use Rattle.std.specs.Prelude.{ℕ, ◌/◌, ◌%◌, cond, List, [], ◌∷◌, ◌++◌, eqb, get_or}
 use Rattle.text.specs.Ascii.{ascii}
 use Rattle.text.specs.Decimal.{decimal}
-use Rattle.refusals.specs.Numbers.{number_of}
-use Rattle.refusals.specs.declared.Refusal.{Refusal}
 
 -- The names of the day types in bit order.
 abbrev pub day_names : List (List ℕ)
@@ -22,12 +20,12 @@ unfoldable pub blank_and_seconds : ℕ → List ℕ
 blank_and_seconds ticks = blank_and_decimal (ticks / 10) ++ (ascii "." ++ decimal (ticks % 10))
 
 -- `refused N`, where there is no place to name.
-unfoldable pub refused_line : Refusal → List ℕ
-refused_line refusal = ascii "refused " ++ (decimal (number_of refusal) ++ ascii "\n")
+unfoldable pub refused_line : ℕ → List ℕ
+refused_line refusal = ascii "refused " ++ (decimal refusal ++ ascii "\n")
 
 -- "A refused file prints only `refused N at P`."
-unfoldable pub refusal_line : Refusal → ℕ → List ℕ
-refusal_line refusal place = ascii "refused " ++ (decimal (number_of refusal) ++ (ascii " at " ++ (decimal place ++ ascii "\n")))
+unfoldable pub refusal_line : ℕ → ℕ → List ℕ
+refusal_line refusal place = ascii "refused " ++ (decimal refusal ++ (ascii " at " ++ (decimal place ++ ascii "\n")))
 
 -- `1 argument, 2 wanted`, `3 arguments, at most 1 wanted`.
 unfoldable pub arguments_text : ℕ → List ℕ

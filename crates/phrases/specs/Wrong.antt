@@ -3,18 +3,17 @@ use Rattle.std.specs.Prelude.{ℕ, cond, List, ◌++◌, eqb}
 use Rattle.text.specs.Ascii.{ascii}
 use Rattle.text.specs.Decimal.{decimal}
 use Rattle.text.specs.Items.{item}
-use Rattle.refusals.specs.Numbers.{number_of}
-use Rattle.refusals.specs.declared.Refusal.{Refusal}
 use Rattle.phrases.specs.Phrases.{blank_and_decimal}
 
--- Document 01, 'Refusals': the trade words of refusals 1 to 14. Document 02 has none for 15 to 17; theirs are ours. There is none for 18.
-unfoldable pub trade_word : Refusal → List ℕ
+-- Document 01, 'Refusals': the trade words of refusals 1 to 14. Document 02 has none for 15 to 17; theirs are ours. Item 0, of no refusal,
+-- is empty; there is none for 18.
+unfoldable pub trade_word : ℕ → List ℕ
 trade_word refusal =
     item (ascii ",short file,wrong count,bad timing,bad entry,bad holiday,bad level,long file,bad clock,bad sample,bad command,small buffer,no period,spoilt state,spoilt site,bad record,bad approach,too many entries")
-    (number_of refusal)
+    refusal
 
 -- How a line begins that says what is wrong: `bad entry: `.
-unfoldable pub opening_text : Refusal → List ℕ
+unfoldable pub opening_text : ℕ → List ℕ
 opening_text refusal = trade_word refusal ++ ascii ": "
 
 -- `LOW-HIGH`; where both are the same number, that number alone.

@@ -8,7 +8,6 @@ mod wrong;
 ghost use Rattle.text.specs.Puts.{Puts};
 ghost use Rattle.phrases.specs.Phrases.{day_name, blank_and_decimal, blank_and_seconds, refused_line, refusal_line, arguments_text, wanted_line};
 
-use refusals::Refusal;
 use text::Text;
 pub use wrong::{put_allowed, put_not_allowed, put_opening};
 
@@ -40,19 +39,19 @@ pub fn put_blank_and_seconds(out: &mut Text, ticks: u16)
     out.put_decimal((ticks % 10) as u64);
 }
 
-pub fn put_refused(out: &mut Text, refusal: Refusal)
+pub fn put_refused(out: &mut Text, refusal: u8)
     ensures { Puts out.old (refused_line refusal) out.new }
 {
     out.put(b"refused ");
-    out.put_decimal(refusal.number() as u64);
+    out.put_decimal(refusal as u64);
     out.put_byte(b'\n');
 }
 
-pub fn put_refusal(out: &mut Text, refusal: Refusal, place: usize)
+pub fn put_refusal(out: &mut Text, refusal: u8, place: usize)
     ensures { Puts out.old (refusal_line refusal place) out.new }
 {
     out.put(b"refused ");
-    out.put_decimal(refusal.number() as u64);
+    out.put_decimal(refusal as u64);
     out.put(b" at ");
     out.put_decimal(place as u64);
     out.put(b"\n");

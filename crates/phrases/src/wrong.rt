@@ -2,21 +2,20 @@
 ghost use Rattle.text.specs.Puts.{Puts};
 ghost use Rattle.phrases.specs.Wrong.{trade_word, opening_text, range_text, allowed_text, not_allowed_text};
 
-use refusals::Refusal;
 use text::Text;
 
 // The trade word of a refusal, 1 to 17.
-fn put_trade_word(out: &mut Text, refusal: Refusal)
+fn put_trade_word(out: &mut Text, refusal: u8)
     ensures { Puts out.old (trade_word refusal) out.new }
 {
     out.put_item(
         b",short file,wrong count,bad timing,bad entry,bad holiday,bad level,long file,bad clock,bad sample,bad command,small buffer,no period,spoilt state,spoilt site,bad record,bad approach,too many entries",
-        refusal.number() as usize,
+        refusal as usize,
     );
 }
 
 // How a line begins that says what is wrong.
-pub fn put_opening(out: &mut Text, refusal: Refusal)
+pub fn put_opening(out: &mut Text, refusal: u8)
     ensures { Puts out.old (opening_text refusal) out.new }
 {
     put_trade_word(out, refusal);

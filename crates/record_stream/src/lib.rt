@@ -3,7 +3,6 @@
 
 ghost use Rattle.std.specs.Prelude.{◌≡◌, cond, ◌-◌, ◌%◌, ◌≤◌, length, take, drop, IfSome};
 
-use refusals::Refusal;
 use std::io::Read;
 use streams::STDERR_FILENO;
 use text::Text;
@@ -55,17 +54,13 @@ pub fn move_front(buffer: &mut [u8], from: usize, to: usize)
 }
 
 // The line at the end: how many ticks were accepted, and what refused the next record, or 0.
-pub fn print_end(accepted: u64, refusal: Option<Refusal>) {
-    let number = match refusal {
-        Some(refusal) => refusal.number(),
-        None => 0,
-    };
+pub fn print_end(accepted: u64, refusal: u8) {
     let mut buffer = io::buffer();
     let mut line = Text::new(&mut buffer);
     line.put(b"accepted");
     phrases::put_blank_and_decimal(&mut line, accepted);
     line.put(b" refusal");
-    phrases::put_blank_and_decimal(&mut line, number as u64);
+    phrases::put_blank_and_decimal(&mut line, refusal as u64);
     line.put_byte(b'\n');
-    site_program::write_error(STDERR_FILENO, &line);
+    site_program::write_error(STDERR_FILENO, line.whole());
 }

@@ -11,7 +11,7 @@ use text::Text;
 fn print_refusal(rt: &impl Print, misread: Misread) -> bool {
     let mut buffer = io::buffer();
     let mut text = Text::new(&mut buffer);
-    phrases::put_refusal(&mut text, misread.refusal, misread.place);
+    phrases::put_refusal(&mut text, misread.refusal.number(), misread.place);
     site_program::write_text(rt, &text)
 }
 

@@ -43,7 +43,8 @@ fn end_all(rt: &impl Print, site: Site, run: Run, out: &mut [u8]) -> Going
 {
     let mut text = Text::new(out);
     replay_lines::put_last(&mut text, site, run);
-    site_program::write_text(rt, &text);
+    let end = text.end;
+    site_program::write_out(rt, &out[..end]);
     Going {
         run: replay_lines::last(site, run),
         on: false,
@@ -81,7 +82,7 @@ fn explain_first(errors: i32, site: Site, earlier: Run, run: Run) {
         let mut buffer = io::buffer();
         let mut text = Text::new(&mut buffer);
         tick_diagnosis::put_diagnosis(&mut text, refused.line, shape, refused.input);
-        site_program::write_error(errors, &text);
+        site_program::write_error(errors, text.whole());
     }
 }
 

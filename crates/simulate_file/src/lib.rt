@@ -149,7 +149,11 @@ pub fn simulate(
     if let Some(site) = site_input::site_of(rt, name, named, false) {
         let run = run_all(rt, records, site, singly);
         if run.well {
-            record_stream::print_end(run.accepted, run.refusal);
+            let refusal = match run.refusal {
+                Some(refusal) => refusal.number(),
+                None => 0,
+            };
+            record_stream::print_end(run.accepted, refusal);
         }
     }
 }

@@ -191,7 +191,7 @@ fn main(rt: HostRuntime) {
     match site_reader::read(&file[..n]) {
         Ok(site) => run(site),
         Err(misread) => {
-            test_output::print_refusal(misread.refusal, misread.place);
+            test_output::print_refusal(misread.refusal.number(), misread.place);
             site_program::explain(STDERR_FILENO, b"standard input", &file[..n]);
         }
     }

@@ -47,7 +47,7 @@ fn print_line(name: &[u8], much: Outcome, just: Outcome, less: Outcome) {
     put_outcome(&mut line, just);
     put_outcome(&mut line, less);
     line.put_byte(b'\n');
-    test_output::print(&line);
+    test_output::print(line.whole());
 }
 
 // What a call that writes answers, in each of the three buffers.
@@ -76,7 +76,7 @@ fn print_diagnosis(file: &[u8]) {
     let mut buffer = io::buffer();
     let mut text = Text::new(&mut buffer);
     site_diagnosis::put_diagnosis(&mut text, b"site.bin", file);
-    test_output::print(&text);
+    test_output::print(text.whole());
 }
 
 fn answer(file: &[u8]) {
@@ -86,7 +86,7 @@ fn answer(file: &[u8]) {
             print_writes(b"write", |out| site_writer::write(site, out));
         }
         Err(misread) => {
-            test_output::print_refusal(misread.refusal, misread.place);
+            test_output::print_refusal(misread.refusal.number(), misread.place);
             print_diagnosis(file);
         }
     }

@@ -4,6 +4,7 @@ use mathlib.Core.Path.{◌≡◌, refl}
 use mathlib.Core.List.{List, [], ◌++◌}
 use borrow.Author.Tests.{eq-eqb, ne_eqb}
 use lib.ListN.{length}
+use Rattle.refusals.specs.Numbers.{number_of}
 use Rattle.phrases.specs.Wrong.{opening_text}
 use Rattle.numbers.specs.Words.{words}
 use Rattle.text.specs.Ascii.{ascii}
@@ -32,8 +33,8 @@ pub record Line (name s line : List ℕ) : Type 0 where
   pub diagnosed : Diagnosed name s (diagnosis_line name s)
 
 refused_line_lem : (name s wrong : List ℕ) (m : Misread) → read_of s ≡ Err m
-    → diagnosis_line name s ≡ opening_text m.refusal ++ (wrong ++ place_text name m.place)
-    → Line name s (opening_text m.refusal ++ (wrong ++ place_text name m.place))
+    → diagnosis_line name s ≡ opening_text (number_of m.refusal) ++ (wrong ++ place_text name m.place)
+    → Line name s (opening_text (number_of m.refusal) ++ (wrong ++ place_text name m.place))
 refused_line_lem name s wrong m e l =
     record { is = l; diagnosed = record { silent = λ z. let y = rw e at z in absurd (cc); says = rw e (wrong, l) } }
 

@@ -2,6 +2,7 @@
 use Rattle.std.specs.Prelude.{ℕ, ◌*◌, ◌≡◌, cond, List, [], ◌++◌, eqb, length, Result, Ok, Err, IsOk, IfErr}
 use Rattle.text.specs.Ascii.{ascii}
 use Rattle.text.specs.Decimal.{decimal}
+use Rattle.refusals.specs.Numbers.{number_of}
 use Rattle.phrases.specs.Wrong.{opening_text}
 use Rattle.numbers.specs.Words.{words}
 use Rattle.ranges.specs.declared.Section.{Section}
@@ -18,11 +19,11 @@ place_text name place = ascii " (" ++ (name ++ (ascii ", byte " ++ (decimal plac
 
 -- The line of a section that was found to be refused, its count being number q of the file's numbers ws.
 unfoldable pub section_line : List ℕ → Section → List ℕ → ℕ → Misread → List ℕ
-section_line name k ws q m = opening_text m.refusal ++ (wrong_text k ws q m.refusal ++ place_text name m.place)
+section_line name k ws q m = opening_text (number_of m.refusal) ++ (wrong_text k ws q m.refusal ++ place_text name m.place)
 
 -- The line of a file with bytes behind its levels.
 unfoldable pub long_line : List ℕ → ℕ → List ℕ
-long_line name place = opening_text LongFile ++ (ascii "nothing may follow the levels" ++ place_text name place)
+long_line name place = opening_text (number_of LongFile) ++ (ascii "nothing may follow the levels" ++ place_text name place)
 
 -- The line of a refused section; else what follows.
 abbrev pub line_or : Result Found Misread → (Misread → List ℕ) → (Found → List ℕ) → List ℕ
@@ -46,4 +47,4 @@ diagnosis_line name s =
 -- that reading gives, and ends with its place.
 pub record Diagnosed (name s line : List ℕ) : Type 0 where
   pub silent : IsOk (read_of s) → line ≡ []
-  pub says : IfErr (read_of s) (λ m. (wrong : List ℕ) × (line ≡ opening_text m.refusal ++ (wrong ++ place_text name m.place)))
+  pub says : IfErr (read_of s) (λ m. (wrong : List ℕ) × (line ≡ opening_text (number_of m.refusal) ++ (wrong ++ place_text name m.place)))

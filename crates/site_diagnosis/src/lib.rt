@@ -37,7 +37,7 @@ fn put_section(
     requires { section_of section (length file.now) (words file.now) q ≡ Err misread }
     ensures { Puts out.old (section_line name.now section (words file.now) q misread) out.new }
 {
-    phrases::put_opening(out, misread.refusal);
+    phrases::put_opening(out, misread.refusal.number());
     wrong::put_wrong(out, section, file, q, misread);
     put_place(out, name, misread.place);
 }
@@ -46,7 +46,7 @@ fn put_section(
 fn put_long(out: &mut Text, name: &[u8], place: usize)
     ensures { Puts out.old (long_line name.now place) out.new }
 {
-    phrases::put_opening(out, Refusal::LongFile);
+    phrases::put_opening(out, Refusal::LongFile.number());
     out.put(b"nothing may follow the levels");
     put_place(out, name, place);
 }

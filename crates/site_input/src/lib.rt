@@ -14,8 +14,8 @@ use text::Text;
 fn report(name: &[u8], file: &[u8], misread: Misread, explained: bool) {
     let mut buffer = io::buffer();
     let mut line = Text::new(&mut buffer);
-    phrases::put_refusal(&mut line, misread.refusal, misread.place);
-    site_program::write_error(STDERR_FILENO, &line);
+    phrases::put_refusal(&mut line, misread.refusal.number(), misread.place);
+    site_program::write_error(STDERR_FILENO, line.whole());
     if explained {
         site_program::explain(STDERR_FILENO, name, file);
     }

@@ -49,9 +49,9 @@ pub fn write_text(rt: &impl Print, text: &Text) -> bool {
     }
 }
 
-// The same to a file for errors, whose own failure has no place to be reported.
-pub fn write_error(errors: i32, text: &Text) {
-    if let Some(bytes) = text.whole() {
+// Writes a text, if it fitted its buffer, to a file for errors, whose own failure has no place to be reported.
+pub fn write_error(errors: i32, text: Option<&[u8]>) {
+    if let Some(bytes) = text {
         io::write_all(errors, bytes);
     }
 }
@@ -61,7 +61,7 @@ pub fn explain(errors: i32, name: &[u8], file: &[u8]) {
     let mut buffer = io::large_buffer();
     let mut text = Text::new(&mut buffer);
     site_diagnosis::put_diagnosis(&mut text, name, file);
-    write_error(errors, &text);
+    write_error(errors, text.whole());
 }
 
 pub fn print_help(rt: &impl Print, usage: &[u8], help: &[u8]) {
@@ -97,7 +97,7 @@ pub fn print_wanted(count: usize, wanted: &[u8], usage: &[u8]) {
     let mut buffer = io::buffer();
     let mut text = Text::new(&mut buffer);
     phrases::put_wanted(&mut text, count, wanted);
-    write_error(STDERR_FILENO, &text);
+    write_error(STDERR_FILENO, text.whole());
     io::write_all(STDERR_FILENO, usage);
 }
 

@@ -4,7 +4,6 @@
 ghost use Rattle.io.specs.Counts.{IsPrefixLen};
 
 use output::Written;
-use refusals::Refusal;
 use streams::STDOUT_FILENO;
 use text::Text;
 
@@ -38,19 +37,19 @@ pub fn digested(digest: u32, number: u16) -> u32 {
     (((digest as u64) * 31 + (number as u64)) % DIGEST_MODULUS) as u32
 }
 
-// Prints a text, where it fits its buffer.
-pub fn print(text: &Text) {
-    if let Some(bytes) = text.whole() {
+// Prints a text, if it fitted its buffer.
+pub fn print(text: Option<&[u8]>) {
+    if let Some(bytes) = text {
         io::write_all(STDOUT_FILENO, bytes);
     }
 }
 
 // The line of a site file that is refused.
-pub fn print_refusal(refusal: Refusal, place: usize) {
+pub fn print_refusal(refusal: u8, place: usize) {
     let mut buffer = io::buffer();
     let mut line = Text::new(&mut buffer);
     phrases::put_refusal(&mut line, refusal, place);
-    print(&line);
+    print(line.whole());
 }
 
 // What a call answered, and whether it left every byte behind what it wrote as it was.

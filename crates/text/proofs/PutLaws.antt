@@ -1,19 +1,49 @@
 -- Putting one text and then another puts both, one behind the other.
-use Prim.Native.Nat.{ℕ, suc, ◌+◌, ◌≤◌, ◌<◌}
+use Prim.Native.Nat.{ℕ, suc, ◌+◌, ◌-◌, ◌≤◌, ◌<◌, min}
 use mathlib.Core.Path.{◌≡◌, refl, ap, sym, ◌∙◌, subst}
 use mathlib.Core.Bool.{Bool, true, false}
 use mathlib.Core.List.{List, [], ◌∷◌, ◌++◌, append-nil}
 use native.Mathlib.Omega.{arith}
 use borrow.Author.Tests.{leb-true, leb-false}
 use lib.Dec.{leb}
-use lib.ListN.{length, drop, length-append}
-use lib.Seq.{sets, set_out, length-sets, drop-length}
+use lib.ListN.{length, take, drop, length-append, drop_of_length-le}
+use borrow.Rule.Slice.PartMut.{put_mid}
+use lib.Seq.{sets, sets-eq, set_out, length-sets, drop-length, take_all}
+use Rattle.std.proofs.lemmas.List.{length-take-le, take-append-drop}
+use Rattle.std.proofs.lemmas.Slice.{put_mid-paste}
 use Rattle.output.proofs.SetsLaws.{sets_append, over_front}
 use Rattle.text.specs.Put.{farthest, Put}
 
 pub sets_out : (d : List ℕ) (p : ℕ) (text : List ℕ) → length d ≤ p → sets d p text ≡ d
 sets_out d p [] h = refl
 sets_out d p (b ∷ text) h = rw (set_out d p b h) (sets_out d (suc p) text (omega arith))
+
+-- As many bytes of a text as fit, laid over their part of the buffer, leave what putting all of it leaves.
+module _ (d text : List ℕ) (p fits : ℕ) (is : fits ≡ min (length d - p) (length text)) where
+  all : length (take fits text) ≡ fits
+  all = length-take-le fits text (omega (arith, is))
+
+  rest_out : (whole : Bool) → leb (length text) fits ≡ whole → sets (sets d p (take fits text)) (p + fits) (drop fits text) ≡ sets d p (take fits text)
+  rest_out true e = ap (sets (sets d p (take fits text)) (p + fits)) (drop_of_length-le text {i = fits} (leb-true (length text) fits e))
+  rest_out false e =
+      let l : length (sets d p (take fits text)) ≡ length d = length-sets d p (take fits text) in
+      sets_out (sets d p (take fits text)) (p + fits) (drop fits text) (omega (arith, leb-false (length text) fits e, is, l))
+
+  pub what_fits : sets d p (take fits text) ≡ sets d p text
+  what_fits =
+      sym (rest_out _ refl)
+      ∙ sets_append d p (p + fits) (take fits text) (drop fits text) (omega (arith, all))
+      ∙ ap (sets d p) (take-append-drop fits text)
+
+  pub laid : (k : ℕ) (ys : List ℕ) → k ≡ fits → 0 < fits → ys ≡ take fits text → put_mid p k d ys ≡ sets d p text
+  laid k ys same some e =
+      let within : p + length (take fits text) ≤ length d = omega (arith, all, is) in
+      let seen : take fits (take fits text) ≡ take fits text = take_all fits (take fits text) (omega (arith, all)) in
+      let there : sets d p (take fits text) ≡ take p d ++ take fits text ++ drop (p + fits) d = sets-eq (take fits text) d p within ∙ rw all refl in
+      put_mid-paste p k d ys (take fits text) fits e (sym same) (sym all)
+      ∙ rw seen refl
+      ∙ sym there
+      ∙ what_fits
 
 pub put_nothing : (d : List ℕ) (p : ℕ) → p ≤ farthest → Put d p [] p d
 put_nothing d p h = record { next = omega arith; bytes = refl }

@@ -42,9 +42,13 @@ impl<'a> Text<'a> {
     pub fn put(&mut self, bytes: &[u8])
         ensures { Puts self.old bytes.now self.new }
     {
-        for byte in bytes {
-            self.put_byte(*byte);
+        // what does not fit is counted and not looked at
+        let room = self.out.len().saturating_sub(self.end);
+        let fits = room.min(bytes.len());
+        if 0 < fits {
+            self.out[self.end..self.end + fits].copy_from_slice(&bytes[..fits]);
         }
+        self.end = self.end.saturating_add(bytes.len());
     }
 
     // The last two digits of n.

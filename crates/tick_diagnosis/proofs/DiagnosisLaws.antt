@@ -5,6 +5,7 @@ use mathlib.Core.List.{◌++◌}
 use Rattle.std.specs.Prelude.{Option, Some, None}
 use Rattle.std.proofs.lemmas.Option.{none-some}
 use Rattle.refusals.specs.declared.Refusal.{Refusal}
+use Rattle.refusals.specs.Numbers.{number_of}
 use Rattle.phrases.specs.Wrong.{opening_text}
 use Rattle.timings.specs.declared.Shape.{Shape}
 use Rattle.tick.specs.declared.Input.{Input}
@@ -23,7 +24,7 @@ module _ (line : ℕ) (h : Shape) (i : Input) where
     silent = λ z. absurd (none-some (refusal_of x.part) (sym (e ∙ z)));
     says = λ refusal is.
         let same : refusal_of x.part ≡ refusal = inside (e ∙ is) in
-        (out_of_range_text x, ap (λ (r : Refusal). opening_text r ++ (out_of_range_text x ++ place_text line)) same);
+        (out_of_range_text x, ap (λ (r : Refusal). opening_text (number_of r) ++ (out_of_range_text x ++ place_text line)) same);
   }
     where
       inside : {r q : Refusal} → Some r ≡ Some q → r ≡ q

@@ -3,6 +3,7 @@ use Rattle.std.specs.Prelude.{ℕ, ◌≡◌, List, [], ◌++◌, Option, Some, 
 use Rattle.refusals.specs.declared.Refusal.{Refusal}
 use Rattle.text.specs.Ascii.{ascii}
 use Rattle.text.specs.Decimal.{decimal}
+use Rattle.refusals.specs.Numbers.{number_of}
 use Rattle.phrases.specs.Wrong.{opening_text, not_allowed_text}
 use Rattle.timings.specs.declared.Shape.{Shape}
 use Rattle.tick.specs.declared.Input.{Input}
@@ -21,7 +22,7 @@ out_of_range_text x = part_text x.part ++ (name_text x.part x.column ++ not_allo
 
 -- The line of a number that is out of range.
 unfoldable pub number_line : ℕ → Number → List ℕ
-number_line line x = opening_text (refusal_of x.part) ++ (out_of_range_text x ++ place_text line)
+number_line line x = opening_text (number_of (refusal_of x.part)) ++ (out_of_range_text x ++ place_text line)
 
 -- That of the first number out of range. There is no text where none is.
 abbrev pub wrong_line : ℕ → Option Number → List ℕ
@@ -35,4 +36,4 @@ diagnosis_line line h i = wrong_line line (first_bad h i)
 -- of the refusal that they give, and ends with the place.
 pub record Diagnosed (line : ℕ) (h : Shape) (i : Input) (text : List ℕ) : Type 0 where
   pub silent : input_refusal h i ≡ None → text ≡ []
-  pub says : (refusal : Refusal) → input_refusal h i ≡ Some refusal → (wrong : List ℕ) × (text ≡ opening_text refusal ++ (wrong ++ place_text line))
+  pub says : (refusal : Refusal) → input_refusal h i ≡ Some refusal → (wrong : List ℕ) × (text ≡ opening_text (number_of refusal) ++ (wrong ++ place_text line))

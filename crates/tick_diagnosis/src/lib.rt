@@ -33,7 +33,7 @@ fn put_out_of_range(out: &mut Text, x: Number)
 fn put_number(out: &mut Text, line: u64, x: Number)
     ensures { Puts out.old (number_line line x) out.new }
 {
-    phrases::put_opening(out, names::refusal_of(x.part));
+    phrases::put_opening(out, names::refusal_of(x.part).number());
     put_out_of_range(out, x);
     put_place(out, line);
 }

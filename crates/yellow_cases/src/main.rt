@@ -44,7 +44,7 @@ fn answer(case: &[u8]) {
     phrases::put_blank_and_decimal(&mut line, refusal as u64);
     phrases::put_blank_and_decimal(&mut line, slope::ticks_given(yellow) as u64);
     line.put_byte(b'\n');
-    test_output::print(&line);
+    test_output::print(line.whole());
 }
 
 fn main() {

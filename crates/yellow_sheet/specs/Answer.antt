@@ -2,6 +2,7 @@
 use Rattle.std.specs.Prelude.{ℕ, List, [], ◌++◌, ℤ, Result, Ok, Err}
 use Rattle.text.specs.Ascii.{ascii}
 use Rattle.text.specs.Decimal.{decimal, signed}
+use Rattle.refusals.specs.Numbers.{number_of}
 use Rattle.phrases.specs.Phrases.{blank_and_seconds, refused_line}
 use Rattle.word_value.specs.Signed.{Word}
 use Rattle.refusals.specs.declared.Refusal.{Refusal}
@@ -16,7 +17,7 @@ yellow_line v s ticks = ticks_text ticks ++ (ascii " s at " ++ (signed v ++ (asc
 
 abbrev pub answer_with : ℤ → ℤ → Result ℕ Refusal → List ℕ
 answer_with v s (Ok ticks) = yellow_line v s ticks
-answer_with v s (Err refusal) = refused_line refusal
+answer_with v s (Err refusal) = refused_line (number_of refusal)
 
 unfoldable pub answer_to : ℤ → ℤ → List ℕ
 answer_to v s = answer_with v s (yellow_at v s)

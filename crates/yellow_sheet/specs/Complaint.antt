@@ -2,6 +2,7 @@
 use Rattle.std.specs.Prelude.{ℕ, Bool, cond, List, [], ◌++◌, ℤ, Ok, Err}
 use Rattle.text.specs.Ascii.{ascii}
 use Rattle.text.specs.Decimal.{signed}
+use Rattle.refusals.specs.Numbers.{number_of}
 use Rattle.phrases.specs.Phrases.{wanted_line}
 use Rattle.refusals.specs.declared.Refusal.TheVariants.{BadApproach}
 use Rattle.phrases.specs.Wrong.{opening_text}
@@ -38,7 +39,7 @@ not_numbers speed v grade s = word_line (ascii "speed") speed v ++ (word_line (a
 -- `bad approach: speed 081, allowed 20-80`.
 unfoldable pub range_line : List ℕ → List ℕ → ℤ → List ℕ → ℤ → List ℕ
 range_line name word low to high =
-    opening_text BadApproach ++ (given_text name word ++ (ascii ", allowed " ++ (signed low ++ (to ++ (signed high ++ ascii "\n")))))
+    opening_text (number_of BadApproach) ++ (given_text name word ++ (ascii ", allowed " ++ (signed low ++ (to ++ (signed high ++ ascii "\n")))))
 
 -- A line, unless the number is in range.
 unfoldable pub unless_in : Bool → List ℕ → List ℕ

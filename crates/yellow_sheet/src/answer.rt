@@ -31,7 +31,7 @@ fn put_answer(out: &mut Text, speed: i64, grade: i64)
 {
     match slope::yellow_at(speed, grade) {
         Ok(ticks) => put_line(out, speed, grade, ticks),
-        Err(refusal) => phrases::put_refused(out, refusal),
+        Err(refusal) => phrases::put_refused(out, refusal.number()),
     }
 }
 

@@ -67,7 +67,7 @@ fn put_not_numbers(
 fn put_range(out: &mut Text, name: &[u8], word: &[u8], low: i64, to: &[u8], high: i64)
     ensures { Puts out.old (range_line name.now word.now low to.now high) out.new }
 {
-    phrases::put_opening(out, Refusal::BadApproach);
+    phrases::put_opening(out, Refusal::BadApproach.number());
     put_given(out, name, word);
     out.put(b", allowed ");
     out.put_signed(low);

@@ -34,7 +34,7 @@ fn print_words(rt: &impl Print, speed: &[u8], grade: &[u8]) {
     if site_program::write_text(rt, &answer) {
         let mut complaint = Text::new(&mut buffer);
         complaint::put_complaint(&mut complaint, speed, grade);
-        site_program::write_error(STDERR_FILENO, &complaint);
+        site_program::write_error(STDERR_FILENO, complaint.whole());
     }
 }
 
@@ -60,7 +60,7 @@ fn print_wrong_count(count: usize) {
     let mut buffer = io::buffer();
     let mut text = Text::new(&mut buffer);
     complaint::put_wrong_count(&mut text, count);
-    site_program::write_error(STDERR_FILENO, &text);
+    site_program::write_error(STDERR_FILENO, text.whole());
 }
 
 fn main(rt: HostRuntime) {

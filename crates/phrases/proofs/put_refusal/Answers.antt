@@ -6,7 +6,6 @@ use Rattle.phrases.proofs.put_refusal.Goals as goal
 pub returns : goal.returns
 unfolding refusal_line
 returns c =
-    rw (← c.number.ensures)
-    (puts_then c.put.ensures
+    puts_then c.put.ensures
     (puts_then c.put_decimal.ensures
-    (puts_then c.put-2.ensures (puts_then c.put_decimal-2.ensures c.put-3.ensures))))
+    (puts_then c.put-2.ensures (puts_then c.put_decimal-2.ensures c.put-3.ensures)))

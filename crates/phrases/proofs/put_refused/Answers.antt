@@ -6,5 +6,4 @@ use Rattle.phrases.proofs.put_refused.Goals as goal
 pub returns : goal.returns
 unfolding refused_line
 returns c =
-    rw (← c.number.ensures)
-    (puts_then c.put.ensures (puts_then c.put_decimal.ensures c.put_byte.ensures))
+    puts_then c.put.ensures (puts_then c.put_decimal.ensures c.put_byte.ensures)

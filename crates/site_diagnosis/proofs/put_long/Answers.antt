@@ -6,6 +6,6 @@ use Rattle.site_diagnosis.proofs.put_long.Goals as goal
 pub returns : goal.returns
 unfolding long_line
 returns c =
-    puts_then c.put_opening.ensures
+    puts_then (rw c.number.ensures at c.put_opening.ensures)
     (puts_then c.put.ensures
     c.put_place.ensures)

@@ -6,6 +6,6 @@ use Rattle.site_diagnosis.proofs.put_section.Goals as goal
 pub returns : goal.returns
 unfolding section_line
 returns c =
-    puts_then c.put_opening.ensures
+    puts_then (rw c.number.ensures at c.put_opening.ensures)
     (puts_then c.put_wrong.ensures
     c.put_place.ensures)

@@ -6,6 +6,6 @@ use Rattle.tick_diagnosis.proofs.put_number.Goals as goal
 pub returns : goal.returns
 unfolding number_line
 returns c =
-    puts_then (rw c.refusal_of.ensures at c.put_opening.ensures)
+    puts_then (rw (c.number.ensures, c.refusal_of.ensures) at c.put_opening.ensures)
     (puts_then c.put_out_of_range.ensures
     c.put_place.ensures)

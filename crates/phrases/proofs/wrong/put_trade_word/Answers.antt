@@ -4,4 +4,4 @@ use Rattle.phrases.proofs.wrong.put_trade_word.Goals as goal
 
 pub returns : goal.returns
 unfolding trade_word
-returns c = rw (← c.number.ensures) c.put_item.ensures
+returns c = c.put_item.ensures

@@ -21,4 +21,4 @@ returns-in-Err c =
     let v = to_z-of_z c.ranges.speed in
     let s = to_z-of_z c.ranges.grade in
     let e : Err c.in-Err.refusal ≡ yellow_at c.args.speed c.args.grade = c.in-Err.ensures.is ∙ rw (v, s) in
-    rw (← e) c.put_refused.ensures
+    rw (← e) (rw c.number.ensures at c.put_refused.ensures)

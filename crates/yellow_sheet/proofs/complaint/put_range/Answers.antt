@@ -9,4 +9,4 @@ use Rattle.yellow_sheet.proofs.complaint.put_range.Goals as goal
 pub returns : goal.returns
 unfolding range_line
 returns c =
-    puts_then c.put_opening.ensures (puts_then c.put_given.ensures (puts_then c.put.ensures (puts_then (puts_as (ap signed (to_z-of_z c.ranges.low)) c.put_signed.ensures) (puts_then c.put-2.ensures (puts_then (puts_as (ap signed (to_z-of_z c.ranges.high)) c.put_signed-2.ensures) c.put_byte.ensures)))))
+    puts_then (rw c.number.ensures at c.put_opening.ensures) (puts_then c.put_given.ensures (puts_then c.put.ensures (puts_then (puts_as (ap signed (to_z-of_z c.ranges.low)) c.put_signed.ensures) (puts_then c.put-2.ensures (puts_then (puts_as (ap signed (to_z-of_z c.ranges.high)) c.put_signed-2.ensures) c.put_byte.ensures)))))
