@@ -34,11 +34,9 @@ line_most_lem day filed e r t =
     (λ f. simp length-append (omega arith), λ f. simp length-append (omega arith))
 
 -- What a refused file prints.
-refusal_most : (refusal : Refusal) (place : ℕ) → place < tens 19 → length (refusal_line (number_of refusal) place) ≤ 36
+refusal_most : (refusal place : ℕ) → refusal < 1000 → place < tens 19 → length (refusal_line refusal place) ≤ 36
 unfolding refusal_line
-refusal_most refusal place p =
-    let r : number_of refusal < tens 2 = omega (arith, number_most refusal) in
-    simp length-append (omega (arith, decimal_most 2 (number_of refusal) r, decimal_most 19 place p))
+refusal_most refusal place r p = simp length-append (omega (arith, decimal_most 2 refusal r, decimal_most 19 place p))
 
 -- The most bytes of a line in place i + 1, and of n entries' lines on one day from there on.
 abbrev line_most : ℕ → ℕ
@@ -133,4 +131,4 @@ module _ (x : Site) (ok : spoilt_site x ≡ false) where
 pub printed_most : (r : Result Site Misread) → IfErr r (λ m. m.place < 2 ^ 64) → IfOk r (λ x. spoilt_site x ≡ false) → length (printed_of r) ≤ longest_text
 unfolding printed_of
 printed_most (Ok x) p ok = timetable_most x ok
-printed_most (Err m) p ok = omega (arith, refusal_most m.refusal m.place (omega arith))
+printed_most (Err m) p ok = omega (arith, refusal_most (number_of m.refusal) m.place (omega (arith, number_most m.refusal)) (omega arith))

@@ -43,6 +43,7 @@ fn end_all(rt: &impl Print, site: Site, run: Run, out: &mut [u8]) -> Going
 {
     let mut text = Text::new(out);
     replay_lines::put_last(&mut text, site, run);
+    // a slice, so that the answer is proved to fit; the text lends out until here
     let end = text.end;
     site_program::write_out(rt, &out[..end]);
     Going {
